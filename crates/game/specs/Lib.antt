@@ -1,0 +1,10 @@
+pub mod Orders
+pub mod Game
+pub mod Examples
+pub mod Arrange
+pub mod EveryOrder
+pub mod Joining
+pub mod Rank
+pub mod Pivot
+pub mod Fairness
+pub mod Total

@@ -1,0 +1,42 @@
+-- Tests, sums, counts and lists over the numbers 0, 1, .. below a bound. Each takes the bound's last number last, as a counting loop does.
+-- Definitions only. Assumes nothing.
+use mathlib.Core.Bool.{Bool, true, false, cond, _&&_, _||_}
+use mathlib.Core.List.{List, [], _∷_, _++_}
+use Prim.Native.Nat.{ℕ, zero, suc, _+_}
+use Rattle.lists.specs.Lists.{tally}
+
+-- does every number below n pass?
+unfoldable pub allBelow : ℕ → (ℕ → Bool) → Bool
+allBelow zero p = true
+allBelow (suc n) p = allBelow n p && p n
+
+-- does some number below n pass?
+unfoldable pub anyBelow : ℕ → (ℕ → Bool) → Bool
+anyBelow zero p = false
+anyBelow (suc n) p = anyBelow n p || p n
+
+-- f 0 + f 1 + .. + f (n - 1)
+unfoldable pub sumBelow : ℕ → (ℕ → ℕ) → ℕ
+sumBelow zero f = 0
+sumBelow (suc n) f = sumBelow n f + f n
+
+-- how many numbers below n pass
+abbrev pub countBelow : ℕ → (ℕ → Bool) → ℕ
+countBelow n p = sumBelow n (λ i. tally (p i))
+
+-- the lists f 0, f 1, .. up to f (n - 1), joined
+unfoldable pub joinBelow : ℕ → (ℕ → List ℕ) → List ℕ
+joinBelow zero f = []
+joinBelow (suc n) f = joinBelow n f ++ f n
+
+-- f 0, f 1, .. up to f (n - 1)
+unfoldable pub mapBelow : ℕ → (ℕ → ℕ) → List ℕ
+mapBelow n f = joinBelow n (λ i. f i ∷ [])
+
+-- the numbers below n that pass, ascending
+unfoldable pub listBelow : ℕ → (ℕ → Bool) → List ℕ
+listBelow n p = joinBelow n (λ i. cond (p i) (i ∷ []) [])
+
+-- 0, 1, .. up to n - 1
+abbrev pub range : ℕ → List ℕ
+range n = mapBelow n (λ i. i)

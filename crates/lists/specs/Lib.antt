@@ -1,0 +1,9 @@
+pub mod Lists
+pub mod Below
+pub mod Tests
+pub mod Sums
+pub mod Counts
+pub mod Loops
+pub mod Range
+pub mod Writes
+pub mod Examples

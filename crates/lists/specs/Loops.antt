@@ -1,0 +1,92 @@
+-- Laws for loops that count up to a bound: a turn, the end, and what a test over all numbers below the bound says.
+-- Assumes nothing.
+use mathlib.Core.Bool.{Bool, true, false, cond, _&&_, _||_, true≢false}
+use mathlib.Core.List.{List, [], _∷_, _++_}
+use mathlib.Core.Logic.{_⊎_, ⊎-elim}
+use mathlib.Core.Path.{_≡_, refl, sym, subst, _∙_}
+use Prim.Native.Nat.{ℕ, zero, suc, _+_, _≤_, _<_}
+use native.Mathlib.Nat.{not-suc-le-zero, eq-or-lt-of-le, le-of-suc-le-suc}
+use native.Mathlib.Numerals.{add-one}
+use native.Mathlib.Omega.{arith}
+use Rattle.lists.specs.Below.{allBelow, anyBelow, sumBelow, joinBelow, mapBelow, listBelow}
+use Rattle.lists.specs.Tests.{split, fails, never-both, and-both, and-left, and-right, or-left, or-right}
+
+-- a number below n + 1 is n, or below n
+pub last-or : {i n : ℕ} → i < suc n → (i ≡ n) ⊎ (i < n)
+last-or h = eq-or-lt-of-le (le-of-suc-le-suc h)
+
+-- what holds where the loop ends holds at its bound
+pub by-end : (P : ℕ → Type 0) {i n : ℕ} → P i → i ≤ n → n ≤ i → P n
+by-end P {i} {n} p l g = let e : i ≡ n = omega arith in subst P e p
+
+-- ---- a turn
+
+pub allBelow-next : (n : ℕ) (p : ℕ → Bool) → allBelow (n + 1) p ≡ (allBelow n p && p n)
+unfolding allBelow
+allBelow-next n p = rw add-one
+
+pub anyBelow-next : (n : ℕ) (p : ℕ → Bool) → anyBelow (n + 1) p ≡ (anyBelow n p || p n)
+unfolding anyBelow
+anyBelow-next n p = rw add-one
+
+pub sumBelow-next : (n : ℕ) (f : ℕ → ℕ) → sumBelow (n + 1) f ≡ sumBelow n f + f n
+unfolding sumBelow
+sumBelow-next n f = rw add-one
+
+pub joinBelow-next : (n : ℕ) (f : ℕ → List ℕ) → joinBelow (n + 1) f ≡ joinBelow n f ++ f n
+unfolding joinBelow
+joinBelow-next n f = rw add-one
+
+pub mapBelow-next : (n : ℕ) (f : ℕ → ℕ) → mapBelow (n + 1) f ≡ mapBelow n f ++ (f n ∷ [])
+unfolding mapBelow
+mapBelow-next n f = joinBelow-next n (λ i. f i ∷ [])
+
+pub listBelow-next : (n : ℕ) (p : ℕ → Bool) → listBelow (n + 1) p ≡ listBelow n p ++ cond (p n) (n ∷ []) []
+unfolding listBelow
+listBelow-next n p = joinBelow-next n (λ i. cond (p i) (i ∷ []) [])
+
+-- ---- every number passes
+
+module _ (p : ℕ → Bool) where
+  pub allBelow-at : (n : ℕ) {i : ℕ} → allBelow n p ≡ true → i < n → p i ≡ true
+  unfolding allBelow
+  allBelow-at zero h l = absurd (not-suc-le-zero l)
+  allBelow-at (suc n) h l =
+      ⊎-elim (λ e. rw e (and-right (allBelow n p) (p n) h)) (λ l. allBelow-at n (and-left (allBelow n p) (p n) h) l) (last-or l)
+
+  pub allBelow-by : (n : ℕ) → ((i : ℕ) → i < n → p i ≡ true) → allBelow n p ≡ true
+  unfolding allBelow
+  allBelow-by zero h = refl
+  allBelow-by (suc n) h = and-both (allBelow n p) (p n) (allBelow-by n (λ i l. h i (omega arith))) (h n (omega arith))
+
+  -- a loop's turn passes; a turn fails; the loop is through
+  pub allBelow-more : (i : ℕ) → allBelow i p ≡ true → p i ≡ true → allBelow (i + 1) p ≡ true
+  allBelow-more i h k = allBelow-next i p ∙ and-both (allBelow i p) (p i) h k
+
+  pub allBelow-fails : (n i : ℕ) → i < n → p i ≡ false → allBelow n p ≡ false
+  allBelow-fails n i l f = fails (allBelow n p) (λ t. never-both (allBelow-at n t l) f)
+
+  pub allBelow-done : (n i : ℕ) → allBelow i p ≡ true → i ≤ n → n ≤ i → allBelow n p ≡ true
+  allBelow-done n i = by-end (λ m. allBelow m p ≡ true)
+
+-- ---- some number passes
+
+module _ (p : ℕ → Bool) where
+  pub anyBelow-at : (n : ℕ) → anyBelow n p ≡ true → (i : ℕ) × (i < n) × (p i ≡ true)
+  unfolding anyBelow
+  anyBelow-at zero h = absurd (true≢false (sym h))
+  anyBelow-at (suc n) h =
+      split (anyBelow n p) (λ t. let w = anyBelow-at n t in (w .0, omega (arith, w .1), w .2)) (λ f. (n, omega arith, rw f at h))
+
+  pub anyBelow-by : (n i : ℕ) → i < n → p i ≡ true → anyBelow n p ≡ true
+  unfolding anyBelow
+  anyBelow-by zero i l h = absurd (not-suc-le-zero l)
+  anyBelow-by (suc n) i l h =
+      ⊎-elim (λ e. or-right (anyBelow n p) (p n) (rw (← e) h)) (λ l. or-left (anyBelow n p) (p n) (anyBelow-by n i l h)) (last-or l)
+
+  -- no number passes
+  pub anyBelow-none : (n : ℕ) {i : ℕ} → anyBelow n p ≡ false → i < n → p i ≡ false
+  anyBelow-none n {i} h l = fails (p i) (λ t. never-both (anyBelow-by n i l t) h)
+
+  pub anyBelow-fails : (n : ℕ) → ((i : ℕ) → i < n → p i ≡ false) → anyBelow n p ≡ false
+  anyBelow-fails n h = fails (anyBelow n p) (λ t. let w = anyBelow-at n t in never-both (w .2) (h (w .0) (w .1)))

@@ -1,0 +1,165 @@
+-- Laws of sums, counts and lists over the numbers below a bound. Assumes nothing.
+use mathlib.Core.Bool.{Bool, true, false, cond, _&&_}
+use mathlib.Core.List.{List, [], _∷_, _++_, append-assoc, append-nil}
+use mathlib.Core.Logic.{⊎-elim}
+use mathlib.Core.Path.{_≡_, refl, sym, ap, ap₂, _∙_}
+use Prim.Native.Nat.{ℕ, zero, suc, _+_, _*_, _≤_, _<_}
+use native.Mathlib.Nat.{not-suc-le-zero, le-refl, le-of-suc-le-suc, eq-or-lt-of-le, mul-comm, mul-one}
+use native.Mathlib.Omega.{arith}
+use lib.Dec.{eqb, ltb}
+use lib.ListN.{length, take, drop, length-append, List·getD-append}
+use lib.Seq.{getD-at, take-at, drop-at}
+use borrow.Author.Tests.{eqb-true, eqb-false, ltb-true, ltb-false, lt-ltb, le-ltb}
+use Rattle.lists.specs.Lists.{tally, sumBy, count, _∈_, has, Once, at, Ascending}
+use Rattle.lists.specs.Below.{sumBelow, countBelow, joinBelow, mapBelow, listBelow, range}
+use Rattle.lists.specs.Tests.{split, passes, and-left, and-right}
+use Rattle.lists.specs.Sums.{tally-le, tally-and, sumBy-append, sumBy-add, sumBy-le}
+use Rattle.lists.specs.Counts.{count-append, sumBy-cong-in, sumBy-single, in-at}
+use Rattle.lists.specs.Loops.{last-or}
+
+-- ---- sums
+
+pub sumBy-joinBelow : (g : ℕ → ℕ) (n : ℕ) (f : ℕ → List ℕ) → sumBy g (joinBelow n f) ≡ sumBelow n (λ i. sumBy g (f i))
+unfolding joinBelow sumBelow
+sumBy-joinBelow g zero f = refl
+sumBy-joinBelow g (suc n) f = sumBy-append g (joinBelow n f) (f n) ∙ ap (λ s. s + sumBy g (f n)) (sumBy-joinBelow g n f)
+
+-- THE LINK: a sum over the numbers below n is a sum over their list, so the laws of `sumBy` are those of `sumBelow`
+pub sumBy-range : (f : ℕ → ℕ) (n : ℕ) → sumBy f (range n) ≡ sumBelow n f
+unfolding mapBelow joinBelow sumBelow
+sumBy-range f zero = refl
+sumBy-range f (suc n) = omega (arith, sumBy-append f (range n) (n ∷ []), sumBy-range f n)
+
+pub count-range : (x n : ℕ) → count x (range n) ≡ tally (ltb x n)
+unfolding mapBelow joinBelow
+count-range x zero = rw (le-ltb x 0 (omega arith))
+count-range x (suc n) =
+    let c = count-append x (range n) (n ∷ []) in
+    let h = count-range x n in
+    split (eqb x n)
+    (λ e. let q : x ≡ n = eqb-true x n e in omega (arith, ap tally e, ap tally (le-ltb x n (omega arith)), ap tally (lt-ltb x (suc n) (omega arith))))
+    (λ e. let d : x ≡ n → ⊥ = eqb-false x n e in split (ltb x n)
+    (λ t. let q = ltb-true x n t in omega (arith, ap tally e, ap tally t, ap tally (lt-ltb x (suc n) (omega arith))))
+    (λ t. let q = ltb-false x n t in omega (arith, ap tally e, ap tally t, ap tally (le-ltb x (suc n) (omega (arith, d))))))
+
+pub in-range : (x n : ℕ) → x < n → x ∈ range n
+in-range x n h = omega (arith, count-range x n, ap tally (lt-ltb x n h))
+
+pub of-range : (x n : ℕ) → x ∈ range n → x < n
+of-range x n h = split (ltb x n) (ltb-true x n) (λ t. absurd (omega (arith, count-range x n, ap tally t)))
+
+pub range-once : (n : ℕ) → Once (range n)
+range-once n x = omega (arith, count-range x n, tally-le (ltb x n))
+
+pub sumBelow-same : (f g : ℕ → ℕ) (n : ℕ) → ((i : ℕ) → i < n → f i ≡ g i) → sumBelow n f ≡ sumBelow n g
+sumBelow-same f g n h = sym (sumBy-range f n) ∙ sumBy-cong-in (range n) (λ i p. h i (of-range i n p)) ∙ sumBy-range g n
+
+pub sumBelow-add : (f g : ℕ → ℕ) (n : ℕ) → sumBelow n (λ i. f i + g i) ≡ sumBelow n f + sumBelow n g
+sumBelow-add f g n = sym (sumBy-range (λ i. f i + g i) n) ∙ sumBy-add f g (range n) ∙ ap₂ _+_ (sumBy-range f n) (sumBy-range g n)
+
+pub sumBelow-le : (f g : ℕ → ℕ) (n : ℕ) → ((i : ℕ) → f i ≤ g i) → sumBelow n f ≤ sumBelow n g
+sumBelow-le f g n h = rw (← sumBy-range f n, ← sumBy-range g n) (sumBy-le h (range n))
+
+pub sumBelow-const : (c n : ℕ) → sumBelow n (λ i. c) ≡ n * c
+unfolding sumBelow
+sumBelow-const c zero = omega arith
+sumBelow-const c (suc n) = omega (arith, sumBelow-const c n)
+
+-- the sum of what is 0 but at k
+pub sumBelow-single : (g : ℕ → ℕ) (k n : ℕ) → sumBelow n (λ i. g i * tally (eqb k i)) ≡ g k * tally (ltb k n)
+sumBelow-single g k n = sym (sumBy-range (λ i. g i * tally (eqb k i)) n) ∙ sumBy-single g k (range n) ∙ ap (λ c. g k * c) (count-range k n)
+
+pub countBelow-le : (p : ℕ → Bool) (n : ℕ) → countBelow n p ≤ n
+countBelow-le p n = omega (arith, sumBelow-le (λ i. tally (p i)) (λ i. 1) n (λ i. tally-le (p i)), sumBelow-const 1 n)
+
+-- ---- lists
+
+pub length-joinBelow : (n : ℕ) (f : ℕ → List ℕ) → length (joinBelow n f) ≡ sumBelow n (λ i. length (f i))
+unfolding joinBelow sumBelow
+length-joinBelow zero f = refl
+length-joinBelow (suc n) f = length-append (joinBelow n f) (f n) ∙ ap (λ s. s + length (f n)) (length-joinBelow n f)
+
+pub length-mapBelow : (n : ℕ) (f : ℕ → ℕ) → length (mapBelow n f) ≡ n
+unfolding mapBelow
+length-mapBelow n f = length-joinBelow n (λ i. f i ∷ []) ∙ sumBelow-const 1 n ∙ mul-one n
+
+pub length-range : (n : ℕ) → length (range n) ≡ n
+length-range n = length-mapBelow n (λ i. i)
+
+pub length-listBelow : (n : ℕ) (p : ℕ → Bool) → length (listBelow n p) ≡ countBelow n p
+unfolding listBelow
+length-listBelow n p = length-joinBelow n (λ i. cond (p i) (i ∷ []) []) ∙ sumBelow-same _ _ n (λ i l. split (p i) (λ e. rw e) (λ e. rw e))
+
+pub length-joinBelow-le : (f : ℕ → List ℕ) {i : ℕ} (n : ℕ) → i ≤ n → length (joinBelow i f) ≤ length (joinBelow n f)
+unfolding joinBelow
+length-joinBelow-le f {i} zero h = let e : i ≡ 0 = omega arith in rw e (le-refl 0)
+length-joinBelow-le f {i} (suc n) h =
+    ⊎-elim (λ e. rw e (le-refl (length (joinBelow (suc n) f))))
+    (λ l. omega (arith, length-joinBelow-le f n (le-of-suc-le-suc l), length-append (joinBelow n f) (f n))) (eq-or-lt-of-le h)
+
+-- lists of what agrees below n agree
+pub joinBelow-same : (f g : ℕ → List ℕ) (n : ℕ) → ((i : ℕ) → i < n → f i ≡ g i) → joinBelow n f ≡ joinBelow n g
+unfolding joinBelow
+joinBelow-same f g zero h = refl
+joinBelow-same f g (suc n) h = ap₂ _++_ (joinBelow-same f g n (λ i l. h i (omega arith))) (h n (omega arith))
+
+pub mapBelow-same : (f g : ℕ → ℕ) (n : ℕ) → ((i : ℕ) → i < n → f i ≡ g i) → mapBelow n f ≡ mapBelow n g
+unfolding mapBelow
+mapBelow-same f g n h = joinBelow-same _ _ n (λ i l. ap (λ x. x ∷ []) (h i l))
+
+pub listBelow-same : (p q : ℕ → Bool) (n : ℕ) → ((i : ℕ) → i < n → p i ≡ q i) → listBelow n p ≡ listBelow n q
+unfolding listBelow
+listBelow-same p q n h = joinBelow-same _ _ n (λ i l. ap (λ b. cond b (i ∷ []) []) (h i l))
+
+-- list i of those joined stands where the lists before it end
+pub joinBelow-at : (f : ℕ → List ℕ) (n : ℕ) (rest : List ℕ) {i : ℕ} → i < n
+    → take (length (f i)) (drop (length (joinBelow i f)) (joinBelow n f ++ rest)) ≡ f i
+unfolding joinBelow
+joinBelow-at f zero rest h = absurd (not-suc-le-zero h)
+joinBelow-at f (suc n) rest {i} h =
+    ap (λ l. take (length (f i)) (drop (length (joinBelow i f)) l)) (append-assoc (joinBelow n f) (f n) rest)
+    ∙ ⊎-elim
+    (λ e. rw e (ap (take (length (f n))) (drop-at (joinBelow n f) (f n ++ rest) (length (joinBelow n f)) refl) ∙ take-at (f n) rest (length (f n)) refl))
+    (λ l. joinBelow-at f n (f n ++ rest) l) (last-or h)
+
+pub mapBelow-at : (f : ℕ → ℕ) (n : ℕ) {i : ℕ} → i < n → at (mapBelow n f) i ≡ f i
+unfolding at mapBelow joinBelow
+mapBelow-at f zero h = absurd (not-suc-le-zero h)
+mapBelow-at f (suc n) {i} h =
+    ⊎-elim (λ e. rw e (getD-at (mapBelow n f) (f n) [] 0 n (length-mapBelow n f)))
+    (λ l. List·getD-append (mapBelow n f) (f n ∷ []) 0 i (omega (arith, length-mapBelow n f)) ∙ mapBelow-at f n l) (last-or h)
+
+-- ---- the numbers that pass: exactly those, each once, ascending
+
+pub count-listBelow : (x n : ℕ) (p : ℕ → Bool) → count x (listBelow n p) ≡ tally (ltb x n && p x)
+unfolding listBelow
+count-listBelow x n p =
+    sumBy-joinBelow (λ y. tally (eqb x y)) n (λ i. cond (p i) (i ∷ []) [])
+    ∙ sumBelow-same _ (λ i. tally (p i) * tally (eqb x i)) n (λ i l. split (p i) (λ e. rw e (omega arith)) (λ e. rw e (omega arith)))
+    ∙ sumBelow-single (λ i. tally (p i)) x n
+    ∙ mul-comm (tally (p x)) (tally (ltb x n))
+    ∙ sym (tally-and (ltb x n) (p x))
+
+pub has-listBelow : {x n : ℕ} (p : ℕ → Bool) → x < n → has x (listBelow n p) ≡ p x
+has-listBelow {x} {n} p l = rw (count-listBelow x n p, lt-ltb x n l) (split (p x) (λ e. rw e) (λ e. rw e))
+
+pub listBelow-in : (n : ℕ) (p : ℕ → Bool) (k : ℕ) → k < length (listBelow n p) → (at (listBelow n p) k < n) × (p (at (listBelow n p) k) ≡ true)
+listBelow-in n p k h =
+    let x = at (listBelow n p) k in
+    let c : tally (ltb x n && p x) ≡ count x (listBelow n p) = sym (count-listBelow x n p) in
+    let t : (ltb x n && p x) ≡ true = passes (ltb x n && p x) (λ f. omega (arith, c, ap tally f, in-at (listBelow n p) k h)) in
+    (ltb-true x n (and-left (ltb x n) (p x) t), and-right (ltb x n) (p x) t)
+
+ascends-more : (l : List ℕ) (n : ℕ) (b : Bool) → ((k : ℕ) → k < length l → at l k < n) → Ascending l → Ascending (l ++ cond b (n ∷ []) [])
+unfolding at
+ascends-more l n true low h j k u v =
+    let v′ : k < suc (length l) = omega (arith, length-append l (n ∷ [])) in
+    let first = List·getD-append l (n ∷ []) 0 j (omega arith) in
+    ⊎-elim (λ e. omega (arith, first, getD-at l n [] 0 k (sym e), low j (omega arith)))
+    (λ w. omega (arith, first, List·getD-append l (n ∷ []) 0 k w, h j k u w)) (last-or v′)
+ascends-more l n false low h j k u v = rw append-nil (h j k u (rw append-nil at v))
+
+pub listBelow-ascends : (n : ℕ) (p : ℕ → Bool) → Ascending (listBelow n p)
+unfolding listBelow joinBelow
+listBelow-ascends zero p j k u v = absurd (not-suc-le-zero v)
+listBelow-ascends (suc n) p j k u v = ascends-more (listBelow n p) n (p n) (λ k l. listBelow-in n p k l .0) (listBelow-ascends n p) j k u v

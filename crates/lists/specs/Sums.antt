@@ -1,0 +1,86 @@
+-- Laws of sums over the members of a list. Assumes nothing.
+use mathlib.Core.Bool.{Bool, true, false, cond, _&&_, _||_, true≢false}
+use mathlib.Core.List.{List, [], _∷_, _++_, map, flatMap}
+use mathlib.Core.Path.{_≡_, refl, sym, ap, _∙_, fun-ext}
+use Prim.Native.Nat.{ℕ, _+_, _-_, _*_, _≤_, zero-le}
+use native.Mathlib.Nat.{zero-add, mul-zero, add-le-add}
+use native.Mathlib.Omega.{arith}
+use lib.ListN.{length}
+use Rattle.lists.specs.Lists.{tally, sumBy}
+
+-- ---- one test
+
+pub tally-le : (b : Bool) → tally b ≤ 1
+tally-le true = omega arith
+tally-le false = omega arith
+
+pub tally-grows : (a b : Bool) → (a ≡ true → b ≡ true) → tally a ≤ tally b
+tally-grows true b h = rw (h refl) (omega arith)
+tally-grows false b h = zero-le
+
+pub tally-and : (a b : Bool) → tally (a && b) ≡ tally a * tally b
+tally-and true b = omega arith
+tally-and false b = omega arith
+
+pub tally-or-le : (a b : Bool) → tally (a || b) ≤ tally a + tally b
+tally-or-le true b = omega arith
+tally-or-le false b = omega arith
+
+-- two tests of which only one passes
+pub tally-or : (a b : Bool) → (b ≡ true → a ≡ false) → tally (a || b) ≡ tally a + tally b
+tally-or true true h = absurd (true≢false (h refl))
+tally-or true false h = refl
+tally-or false b h = sym (zero-add (tally b))
+
+pub cond-tally : (b : Bool) (x : ℕ) → cond b x 0 ≡ x * tally b
+cond-tally true x = omega arith
+cond-tally false x = omega arith
+
+-- ---- all members
+
+module _ {ℓ} {A : Type ℓ} where
+  pub sumBy-cong : {f g : A → ℕ} → ((x : A) → f x ≡ g x) → (l : List A) → sumBy f l ≡ sumBy g l
+  sumBy-cong e l = ap (λ h. sumBy h l) (fun-ext e)
+
+  pub sumBy-append : (f : A → ℕ) (l m : List A) → sumBy f (l ++ m) ≡ sumBy f l + sumBy f m
+  sumBy-append f [] m = sym (zero-add (sumBy f m))
+  sumBy-append f (x ∷ l) m = omega (arith, sumBy-append f l m)
+
+  pub sumBy-add : (f g : A → ℕ) (l : List A) → sumBy (λ x. f x + g x) l ≡ sumBy f l + sumBy g l
+  sumBy-add f g [] = refl
+  sumBy-add f g (x ∷ l) = omega (arith, sumBy-add f g l)
+
+  pub sumBy-scale : (c : ℕ) (f : A → ℕ) (l : List A) → sumBy (λ x. c * f x) l ≡ c * sumBy f l
+  sumBy-scale c f [] = sym (mul-zero c)
+  sumBy-scale c f (x ∷ l) = omega (arith, sumBy-scale c f l)
+
+  pub sumBy-const : (c : ℕ) (l : List A) → sumBy (λ x. c) l ≡ length l * c
+  sumBy-const c [] = omega arith
+  sumBy-const c (x ∷ l) = omega (arith, sumBy-const c l)
+
+  pub sumBy-zero : (l : List A) → sumBy (λ x. 0) l ≡ 0
+  sumBy-zero l = sumBy-const 0 l ∙ mul-zero (length l)
+
+  pub sumBy-le : {f g : A → ℕ} → ((x : A) → f x ≤ g x) → (l : List A) → sumBy f l ≤ sumBy g l
+  sumBy-le h [] = zero-le
+  sumBy-le h (x ∷ l) = add-le-add (h x) (sumBy-le h l)
+
+  -- where no difference is cut off at 0, the differences add up
+  pub sumBy-sub : {f g : A → ℕ} → ((x : A) → g x ≤ f x) → (l : List A) → sumBy f l - sumBy g l ≡ sumBy (λ x. f x - g x) l
+  sumBy-sub h [] = refl
+  sumBy-sub {f} {g} h (x ∷ l) = omega (arith, h x, sumBy-le h l, sumBy-sub {f = f} {g = g} h l)
+
+module _ {ℓ κ} {A : Type ℓ} {B : Type κ} where
+  pub sumBy-map : (f : B → ℕ) (g : A → B) (l : List A) → sumBy f (map g l) ≡ sumBy (λ x. f (g x)) l
+  sumBy-map f g [] = refl
+  sumBy-map f g (x ∷ l) = ap (λ n. f (g x) + n) (sumBy-map f g l)
+
+  pub sumBy-flatMap : (f : B → ℕ) (g : A → List B) (l : List A) → sumBy f (flatMap g l) ≡ sumBy (λ x. sumBy f (g x)) l
+  unfolding flatMap
+  sumBy-flatMap f g [] = refl
+  sumBy-flatMap f g (x ∷ l) = sumBy-append f (g x) (flatMap g l) ∙ ap (λ n. sumBy f (g x) + n) (sumBy-flatMap f g l)
+
+  -- a double sum may be taken in either order
+  pub sumBy-swap : (f : A → B → ℕ) (l : List A) (m : List B) → sumBy (λ x. sumBy (f x) m) l ≡ sumBy (λ y. sumBy (λ x. f x y) l) m
+  sumBy-swap f [] m = sym (sumBy-zero m)
+  sumBy-swap f (x ∷ l) m = ap (λ n. sumBy (f x) m + n) (sumBy-swap f l m) ∙ sym (sumBy-add (f x) (λ y. sumBy (λ x. f x y) l) m)
