@@ -1,7 +1,7 @@
 -- Sums over all orders of a list, by recursion, and that they do not depend on how the list is written. Assumes nothing.
 use mathlib.Core.List.{List, [], _∷_, flatMap}
 use mathlib.Core.Path.{_≡_, refl, sym, ap, _∙_, fun-ext}
-use Prim.Native.Nat.{ℕ, suc, _+_, _*_, _<_}
+use Prim.Native.Nat.{ℕ, suc, _+_, _*_}
 use native.Mathlib.Nat.{add-comm}
 use native.Mathlib.Omega.{arith}
 use lib.Dec.{eqb}
@@ -90,16 +90,22 @@ overOrders-order (add {x = x} o i) f = overOrders-order o (λ m. overInsertions 
 
 -- ---- an order of a list has its members, each as often
 
+sumBy-inserted : {x : ℕ} {l r : List ℕ} → Inserted x l r → (f : ℕ → ℕ) → sumBy f r ≡ f x + sumBy f l
+sumBy-inserted here f = refl
+sumBy-inserted (later j) f = omega (arith, sumBy-inserted j f)
+
+pub sumBy-order : {xs l : List ℕ} → OrderOf xs l → (f : ℕ → ℕ) → sumBy f l ≡ sumBy f xs
+sumBy-order none f = refl
+sumBy-order (add o j) f = omega (arith, sumBy-order o f, sumBy-inserted j f)
+
 count-inserted : {x : ℕ} {l r : List ℕ} → Inserted x l r → (i : ℕ) → count i r ≡ tally (eqb i x) + count i l
-count-inserted here i = refl
-count-inserted (later j) i = omega (arith, count-inserted j i)
+count-inserted j i = sumBy-inserted j (λ y. tally (eqb i y))
+
+pub count-order : {xs l : List ℕ} → OrderOf xs l → (i : ℕ) → count i l ≡ count i xs
+count-order o i = sumBy-order o (λ y. tally (eqb i y))
 
 pub inserted-in : {x : ℕ} {l r : List ℕ} → Inserted x l r → x ∈ r
 inserted-in {x} {l} j = omega (arith, count-inserted j x, in-first x l)
-
-pub count-order : {xs l : List ℕ} → OrderOf xs l → (i : ℕ) → count i l ≡ count i xs
-count-order none i = refl
-count-order (add o j) i = omega (arith, count-order o i, count-inserted j i)
 
 pub length-inserted : {x : ℕ} {l r : List ℕ} → Inserted x l r → length r ≡ suc (length l)
 length-inserted here = refl

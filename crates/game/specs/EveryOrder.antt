@@ -1,7 +1,7 @@
 -- `orders (range n)` holds every order of n buses once, and nothing else. Assumes nothing.
-use mathlib.Core.Bool.{Bool, true, false, cond, _&&_}
+use mathlib.Core.Bool.{true, false, cond}
 use mathlib.Core.List.{List, [], _∷_}
-use mathlib.Core.Logic.{_⊎_, inl, inr, ⊎-elim}
+use mathlib.Core.Logic.{⊎-elim}
 use mathlib.Core.Path.{_≡_, refl, sym, ap, ap₂, _∙_, subst}
 use Prim.Native.Nat.{ℕ, suc, _+_, _*_, _<_}
 use native.Mathlib.Nat.{zero-add, mul-one, eq-zero-or-pos}
@@ -15,7 +15,7 @@ use Rattle.lists.specs.Tests.{split, passes, eqb-self, eqb-comm}
 use Rattle.lists.specs.Sums.{sumBy-const}
 use Rattle.lists.specs.Counts.{in-has, in-first}
 use Rattle.lists.specs.Range.{length-range, count-range, range-once}
-use Rattle.game.specs.Orders.{orders, factorial, IsOrder, same, times, EveryOrderOnce}
+use Rattle.game.specs.Orders.{orders, factorial, same, times, EveryOrderOnce}
 use Rattle.game.specs.Arrange.{overInsertions, overOrders, overOrders-cong, overOrders-scale, sum-orders, Inserted, OrderOf, count-order}
 use Rattle.game.specs.Arrange.Inserted.{here, later}
 use Rattle.game.specs.Arrange.OrderOf.{none, add}

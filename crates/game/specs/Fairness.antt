@@ -3,38 +3,25 @@
 use mathlib.Core.Bool.{Bool, true, false, cond, not, _&&_}
 use mathlib.Core.List.{List, _∷_}
 use mathlib.Core.Path.{_≡_, sym, ap, _∙_, _≡⟨_⟩_, _∎}
-use Prim.Native.Nat.{ℕ, _+_, _-_, _*_, _/_, _≤_, _<_, _∣_, min}
-use native.Mathlib.Nat.{mul-comm, mul-pos, mul-le-mul-left, min-eq-left, min-eq-right, sub-eq-zero-of-le, eq-of-mul-eq-mul-right, dvd-trans, dvd-mul-left, div-mul-cancel}
+use Prim.Native.Nat.{ℕ, _+_, _-_, _*_, _/_, _<_, _∣_, min}
+use native.Mathlib.Nat.{mul-comm, mul-pos, min-eq-left, min-eq-right, sub-eq-zero-of-le, eq-of-mul-eq-mul-right, dvd-trans, dvd-mul-left, div-mul-cancel}
 use native.Mathlib.Omega.{arith}
 use lib.Dec.{eqb, leb}
 use lib.ListN.{length}
-use borrow.Author.Tests.{eqb-true, leb-true, leb-false, le-leb}
-use Rattle.lists.specs.Lists.{tally, sumBy, count, _∈_, has, countIn}
+use borrow.Author.Tests.{eqb-true, leb-true, leb-false}
+use Rattle.lists.specs.Lists.{tally, sumBy, count, _∈_, has}
 use Rattle.lists.specs.Below.{range}
-use Rattle.lists.specs.Tests.{split, eqb-self, or-left, or-right}
-use Rattle.lists.specs.Sums.{cond-tally, tally-grows, sumBy-cong, sumBy-add, sumBy-scale, sumBy-le, sumBy-sub, sumBy-swap}
-use Rattle.lists.specs.Counts.{has-in, none-has, in-length, has-grows, countIn-grows, sumBy-cong-in, sumBy-single}
+use Rattle.lists.specs.Tests.{split, eqb-self}
+use Rattle.lists.specs.Sums.{sumBy-cong, sumBy-add, sumBy-scale, sumBy-sub, sumBy-swap}
+use Rattle.lists.specs.Counts.{has-in, none-has, in-length, sumBy-cong-in, sumBy-single}
 use Rattle.lists.specs.Range.{length-range, in-range}
 use Rattle.game.specs.Orders.{orders, factorial, before}
-use Rattle.game.specs.Game.{Game, degree, seen, value, gain, ownTerm, neighbourTerm, own, neighbour, numerator, Sound, Common}
+use Rattle.game.specs.Game.{Game, degree, seen, value, gain, ownTerm, neighbourTerm, own, neighbour, numerator, GameOn, Common, Fair}
+use Rattle.game.specs.Value.{seen-grows, worth-grows}
+use Rattle.game.specs.EveryOrder.{every-order-once}
 use Rattle.game.specs.Pivot.{pivot, pivots, own-pivots, watcher-pivots, far-pivots}
 
 -- ---- a gain, bus by bus
-
-seen-grows : (g : Game) (u v : ℕ) (s : List ℕ) → seen g u s ≡ true → seen g u (v ∷ s) ≡ true
-unfolding seen
-seen-grows g u v s t =
-    split (has u s)
-    (λ e. or-left (has u (v ∷ s)) _ (has-grows v u s e))
-    (λ e. or-right (has u (v ∷ s)) _ (le-leb (g .need u) _ (omega (arith, leb-true (g .need u) (countIn s (g .watch u)) (rw e at t), countIn-grows v s (g .watch u)))))
-
-worth-grows : (a b : Bool) (w : ℕ) → (a ≡ true → b ≡ true) → cond a w 0 ≤ cond b w 0
-worth-grows a b w h = rw (cond-tally a w, cond-tally b w) (mul-le-mul-left w (tally-grows a b h))
-
--- a recorder more never lowers the value, so the difference of naturals in `gain` loses nothing
-pub value-grows : (g : Game) (ps : List ℕ) (v : ℕ) (s : List ℕ) → value g ps s ≤ value g ps (v ∷ s)
-unfolding value
-value-grows g ps v s = sumBy-le (λ u. worth-grows (seen g u s) (seen g u (v ∷ s)) _ (seen-grows g u v s)) ps
 
 worth-gained : (a b : Bool) (w : ℕ) → cond a w 0 - cond b w 0 ≡ w * tally (a && not b)
 worth-gained true true w = omega arith
@@ -109,34 +96,37 @@ numerator-earned g ps L v one =
       ap (λ c. own g L v * c) one,
     )
 
-earned-right : (g : Game) (ps : List ℕ) → Sound ps g → (L : ℕ) → Common ps g L → (v u : ℕ) → u ∈ ps
+earned-right : (g : Game) (ps : List ℕ) → GameOn ps g → (L : ℕ) → Common ps g L → (v u : ℕ) → u ∈ ps
     → earned g L v u * factorial (length ps) ≡ L * (g .weight u * pivots g ps v u)
 unfolding earned
-earned-right g ps sound L common v u hu =
+earned-right g ps on L common v u hu =
     let ws = g .watch u in
     let k = g .need u in
     let d = degree g u in
     let n = factorial (length ps) in
     let w = g .weight u in
     split (eqb v u)
-    (λ e. rw (eqb-true v u e, eqb-self u, none-has u ws (sound .watch-other u hu))
-    (omega (arith, ap (λ x. w * x) (own-right k d L (pivots g ps u u) n (sound .needs u hu) (common u hu) (own-pivots g ps sound u hu)))))
+    (λ e. rw (eqb-true v u e, eqb-self u, none-has u ws (on .watch-other u hu))
+    (omega (arith, ap (λ x. w * x) (own-right k d L (pivots g ps u u) n (on .needs u hu) (common u hu) (own-pivots g ps on u hu)))))
     (λ e. split (has v ws)
     (λ t. let hv = has-in v ws t in
     rw (e, t)
-    (omega (arith, ap (λ x. w * x) (neighbour-right k d L (pivots g ps v u) n (in-length v ws hv) (common u hu) (watcher-pivots g ps sound u hu v hv)))))
+    (omega (arith, ap (λ x. w * x) (neighbour-right k d L (pivots g ps v u) n (in-length v ws hv) (common u hu) (watcher-pivots g ps on u hu v hv)))))
     (λ t. rw (e, t) (omega (arith, ap (λ x. L * (w * x)) (far-pivots g ps v u e t)))))
 
 -- THE THEOREM, for every list of players without repeats, every game on it, every common denominator and every player
-pub fair : (g : Game) (ps : List ℕ) → Sound ps g → (L : ℕ) → Common ps g L → (v : ℕ) → v ∈ ps
+pub fairness : (g : Game) (ps : List ℕ) → GameOn ps g → (L : ℕ) → Common ps g L → (v : ℕ) → v ∈ ps
     → numerator g ps v L * factorial (length ps) ≡ L * sumBy (gain g ps v) (orders ps)
-fair g ps sound L common v hv =
-    ap (λ x. x * factorial (length ps)) (numerator-earned g ps L v (omega (arith, sound .once v)))
-    ∙ assemble g ps L v (earned g L v) (earned-right g ps sound L common v)
+fairness g ps on L common v hv =
+    ap (λ x. x * factorial (length ps)) (numerator-earned g ps L v (omega (arith, on .once v)))
+    ∙ assemble g ps L v (earned g L v) (earned-right g ps on L common v)
 
--- the same for the buses 0 to n - 1
-pub fair-buses : (n : ℕ) (g : Game) → Sound (range n) g → (L : ℕ) → Common (range n) g L → (v : ℕ) → v < n
-    → numerator g (range n) v L * factorial n ≡ L * sumBy (gain g (range n) v) (orders (range n))
-fair-buses n g sound L common v hv =
-    ap (λ m. numerator g (range n) v L * factorial m) (sym (length-range n))
-    ∙ fair g (range n) sound L common v (in-range v n hv)
+-- for the buses 0 to n - 1, whose orders are all there
+pub fairness-buses : (n : ℕ) (g : Game) → GameOn (range n) g → (L : ℕ) → Common (range n) g L → (v : ℕ) → v < n
+    → Fair n g L v (numerator g (range n) v L)
+fairness-buses n g on L common v hv = record {
+  every = every-order-once n;
+  average =
+      ap (λ m. numerator g (range n) v L * factorial m) (sym (length-range n))
+      ∙ fairness g (range n) on L common v (in-range v n hv);
+}

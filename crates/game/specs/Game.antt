@@ -3,11 +3,12 @@
 use mathlib.Core.Bool.{Bool, cond, _||_}
 use mathlib.Core.List.{List, _∷_}
 use mathlib.Core.Path.{_≡_}
-use Prim.Native.Nat.{ℕ, _+_, _-_, _*_, _/_, _≤_, _<_, _∣_}
+use Prim.Native.Nat.{ℕ, _+_, _-_, _*_, _/_, _<_, _∣_}
 use lib.Dec.{leb}
 use lib.ListN.{length}
 use Rattle.lists.specs.Lists.{sumBy, count, _∈_, has, Once, countIn}
-use Rattle.game.specs.Orders.{before}
+use Rattle.lists.specs.Below.{range}
+use Rattle.game.specs.Orders.{orders, factorial, before, EveryOrderOnce}
 
 -- who watches each bus, how many of them must carry a recorder, and what it is worth to see the bus.
 -- In 01 the watchers of a bus are its neighbours, and each bus is worth 1
@@ -52,7 +53,7 @@ numerator g ps v L = own g L v + sumBy (λ u. cond (has v (g .watch u)) (neighbo
 
 -- g is a game on the players ps: none stands in the list twice, each needs one watcher at least, and its watchers are
 -- other players, each listed once
-pub record Sound (ps : List ℕ) (g : Game) : Type 0 where
+pub record GameOn (ps : List ℕ) (g : Game) : Type 0 where
   pub once : Once ps
   pub needs : (u : ℕ) → u ∈ ps → 0 < g .need u
   pub watch-once : (u : ℕ) → u ∈ ps → Once (g .watch u)
@@ -62,3 +63,8 @@ pub record Sound (ps : List ℕ) (g : Game) : Type 0 where
 -- L is a common denominator: d(d+1) divides it for each degree d above zero that occurs
 abbrev pub Common : List ℕ → Game → ℕ → Type 0
 Common ps g L = (u : ℕ) → u ∈ ps → 0 < degree g u → degree g u * (degree g u + 1) ∣ L
+
+-- x over L is fair to bus v of n buses: it is the average of v's gains over a list that holds each order of the buses once
+pub record Fair (n : ℕ) (g : Game) (L v x : ℕ) : Type 0 where
+  pub every : EveryOrderOnce n (orders (range n))
+  pub average : x * factorial n ≡ L * sumBy (gain g (range n) v) (orders (range n))

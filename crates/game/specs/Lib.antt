@@ -6,5 +6,6 @@ pub mod EveryOrder
 pub mod Joining
 pub mod Rank
 pub mod Pivot
+pub mod Value
 pub mod Fairness
 pub mod Total

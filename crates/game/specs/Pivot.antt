@@ -1,5 +1,5 @@
 -- In how many orders the recorder at v is the one that makes a bus u seen. Assumes nothing.
-use mathlib.Core.Bool.{Bool, true, false, not, _&&_, _||_, and-false, and-not-self}
+use mathlib.Core.Bool.{false, not, _&&_, and-false, and-not-self}
 use mathlib.Core.List.{List, [], _∷_, _++_}
 use mathlib.Core.Path.{_≡_, refl, sym, ap, ap₂, _∙_}
 use Prim.Native.Nat.{ℕ, zero, suc, _+_, _-_, _*_, _≤_, _<_, min}
@@ -16,7 +16,7 @@ use Rattle.lists.specs.Sums.{sumBy-cong, sumBy-zero}
 use Rattle.lists.specs.Counts.{in-has, has-none, in-first, count-append, sumBy-cong-in, countIn-all, countIn-comm, countIn-more}
 use Rattle.lists.specs.Range.{sumBelow-single}
 use Rattle.game.specs.Orders.{orders, factorial, before}
-use Rattle.game.specs.Game.{Game, degree, seen, Sound}
+use Rattle.game.specs.Game.{Game, degree, seen, GameOn}
 use Rattle.game.specs.Arrange.{overInsertions, overOrders, sum-orders, overInsertions-cong, overOrders-cong, overOrders-order, OrderOf, inserted-in, count-order, length-order, order-of-counts}
 use Rattle.game.specs.Joining.{Ignores, overInsertions-const, overInsertions-before, before-ignores, joining, one-last}
 use Rattle.game.specs.Rank.{rank}
@@ -123,7 +123,7 @@ far-pivots g ps v u e h =
     sumBy-cong (λ l. pivot-far g u v (before v l) (eqb-comm u v ∙ e) (has-none v (g .watch u) h)) (orders ps)
     ∙ sumBy-zero (orders ps)
 
-module _ (g : Game) (ps : List ℕ) (sound : Sound ps g) (u : ℕ) (hu : u ∈ ps) where
+module _ (g : Game) (ps : List ℕ) (on : GameOn ps g) (u : ℕ) (hu : u ∈ ps) where
   abbrev ws : List ℕ
   ws = g .watch u
 
@@ -133,12 +133,12 @@ module _ (g : Game) (ps : List ℕ) (sound : Sound ps g) (u : ℕ) (hu : u ∈ p
   closed-once : Once (u ∷ ws)
   closed-once i =
       split (eqb i u)
-      (λ e. omega (arith, ap tally e, ap (λ j. count j ws) (eqb-true i u e), sound .watch-other u hu))
-      (λ e. omega (arith, ap tally e, sound .watch-once u hu i))
+      (λ e. omega (arith, ap tally e, ap (λ j. count j ws) (eqb-true i u e), on .watch-other u hu))
+      (λ e. omega (arith, ap tally e, on .watch-once u hu i))
 
   -- the orders of u and its watchers decide
-  closed : (v : ℕ) → v ∈ (u ∷ ws) → let f : List ℕ → ℕ = λ l. pivot g u v (before v l) in
-      pivots g ps v u * factorial (suc d) ≡ factorial (length ps) * overOrders (u ∷ ws) f
+  closed : (v : ℕ) → v ∈ (u ∷ ws)
+      → pivots g ps v u * factorial (suc d) ≡ factorial (length ps) * overOrders (u ∷ ws) (λ l. pivot g u v (before v l))
   closed v hv =
       joining ps (u ∷ ws) inside (λ l. pivot g u v (before v l))
       (λ r p. before-ignores r v (ne-eqb v r (λ q. omega (arith, ap (λ i. count i (u ∷ ws)) q)))
@@ -146,12 +146,14 @@ module _ (g : Game) (ps : List ℕ) (sound : Sound ps g) (u : ℕ) (hu : u ∈ p
       (pivot-ignores g u v r (ne-eqb u r (λ q. omega (arith, ap tally (eq-eqb r u (sym q))))) (omega arith)))
       ∙ ap (λ n. factorial (length ps) * n) (sum-orders (u ∷ ws) (λ l. pivot g u v (before v l)))
     where
-      inside : (i : ℕ) → i ∈ (u ∷ ws) → count i (u ∷ ws) ≡ count i ps
-      inside i p =
-          let here : i ∈ ps = split (eqb i u)
+      player : (i : ℕ) → i ∈ (u ∷ ws) → i ∈ ps
+      player i p =
+          split (eqb i u)
           (λ e. omega (arith, hu, ap (λ j. count j ps) (eqb-true i u e)))
-          (λ e. sound .watch-inside u hu i (omega (arith, ap tally e))) in
-          omega (arith, closed-once i, sound .once i)
+          (λ e. on .watch-inside u hu i (omega (arith, ap tally e)))
+
+      inside : (i : ℕ) → i ∈ (u ∷ ws) → count i (u ∷ ws) ≡ count i ps
+      inside i p = omega (arith, player i p, closed-once i, on .once i)
 
   -- u makes itself seen in min k (d + 1) of d + 1 orders: fewer than k of its d watchers stand before it
   pub own-pivots : pivots g ps u u * (d + 1) ≡ factorial (length ps) * min (g .need u) (d + 1)
@@ -164,8 +166,8 @@ module _ (g : Game) (ps : List ℕ) (sound : Sound ps g) (u : ℕ) (hu : u ∈ p
           overOrders-order (order-of-counts (u ∷ ws) (ws ++ (u ∷ [])) (λ i. omega (arith, count-append i ws (u ∷ [])))) (λ l. pivot g u u (before u l))
           ∙ overOrders-cong (ws ++ (u ∷ [])) (λ l o. pivot-own g u (before u l) (count-before-self u l)
           ∙ ap (λ n. tally (not (leb (g .need u) n)))
-          (before-watchers ws ws u (sound .watch-once u hu) (λ i. omega (arith, closed-once i, count-append i ws (u ∷ []))) (λ i p. p) o))
-          ∙ rank u ws (sound .watch-other u hu) (λ n. tally (not (leb (g .need u) n)))
+          (before-watchers ws ws u (on .watch-once u hu) (λ i. omega (arith, closed-once i, count-append i ws (u ∷ []))) (λ i p. p) o))
+          ∙ rank u ws (on .watch-other u hu) (λ n. tally (not (leb (g .need u) n)))
           ∙ ap (λ n. factorial d * n) (below-need (g .need u) (suc d) ∙ ap (min (g .need u)) (sym (add-one d)))
 
   module _ (v : ℕ) (hv : v ∈ ws) where
@@ -174,13 +176,13 @@ module _ (g : Game) (ps : List ℕ) (sound : Sound ps g) (u : ℕ) (hu : u ∈ p
     others = without (v ∷ []) ws
 
     v-last : OrderOf ws (others ++ (v ∷ []))
-    v-last = one-last v ws (omega (arith, sound .watch-once u hu v))
+    v-last = one-last v ws (omega (arith, on .watch-once u hu v))
 
     d-others : d ≡ suc (length others)
     d-others = omega (arith, length-order v-last, length-append others (v ∷ []))
 
     apart : eqb v u ≡ false
-    apart = ne-eqb v u (λ q. omega (arith, sound .watch-other u hu, ap (λ i. count i ws) q))
+    apart = ne-eqb v u (λ q. omega (arith, on .watch-other u hu, ap (λ i. count i ws) q))
 
     -- u put into an order of its watchers: v makes it seen where one less than its need stand before v, and u behind v
     places : (l : List ℕ) → OrderOf (others ++ (v ∷ [])) l
@@ -202,17 +204,17 @@ module _ (g : Game) (ps : List ℕ) (sound : Sound ps g) (u : ℕ) (hu : u ∈ p
 
         u-behind : pivot g u v (before v l) ≡ tally (eqb (g .need u - 1) (length (before v l)))
         u-behind =
-            pivot-watcher g u v (before v l) (sound .needs u hu) (eqb-comm u v ∙ apart) (omega (arith, sound .watch-once u hu v))
-            (omega (arith, count-before-le u v l, count-order o u, count-order v-last u, sound .watch-other u hu)) (count-before-self v l)
-            ∙ ap (λ n. tally (eqb (g .need u - 1) n)) (before-watchers ws others v (sound .watch-once u hu)
-            (λ i. omega (arith, count-order v-last i, sound .watch-once u hu i))
+            pivot-watcher g u v (before v l) (on .needs u hu) (eqb-comm u v ∙ apart) (omega (arith, on .watch-once u hu v))
+            (omega (arith, count-before-le u v l, count-order o u, count-order v-last u, on .watch-other u hu)) (count-before-self v l)
+            ∙ ap (λ n. tally (eqb (g .need u - 1) n)) (before-watchers ws others v (on .watch-once u hu)
+            (λ i. omega (arith, count-order v-last i, on .watch-once u hu i))
             (λ i p. omega (arith, count-order v-last i, count-append i others (v ∷ []))) o)
 
     counted : overOrders (u ∷ ws) (λ l. pivot g u v (before v l)) ≡ factorial (length others) * (suc (length others) - (g .need u - 1))
     counted =
         overOrders-order v-last (λ l. overInsertions u l (λ r. pivot g u v (before v r)))
         ∙ overOrders-cong (others ++ (v ∷ [])) places
-        ∙ rank v others (omega (arith, count-order v-last v, count-append v others (v ∷ []), in-first v [], sound .watch-once u hu v))
+        ∙ rank v others (omega (arith, count-order v-last v, count-append v others (v ∷ []), in-first v [], on .watch-once u hu v))
         (λ i. (suc (length others) - i) * tally (eqb (g .need u - 1) i))
         ∙ ap (λ n. factorial (length others) * n) (places-behind (g .need u - 1) (suc (length others)))
 
@@ -222,7 +224,7 @@ module _ (g : Game) (ps : List ℕ) (sound : Sound ps g) (u : ℕ) (hu : u ∈ p
         let n = factorial (length ps) in
         let m = factorial (length others) in
         let whole : factorial d ≡ d * m = ap factorial d-others ∙ ap (λ x. x * m) (sym d-others) in
-        let places : suc (length others) - (g .need u - 1) ≡ d + 1 - g .need u = omega (arith, sound .needs u hu, d-others) in
+        let places : suc (length others) - (g .need u - 1) ≡ d + 1 - g .need u = omega (arith, on .needs u hu, d-others) in
         eq-of-mul-eq-mul-right m (factorial-pos (length others)) _ _
         (omega (
           arith,

@@ -1,14 +1,14 @@
--- Laws of how often a number stands in a list, and at which places. Assumes nothing.
+-- Laws of how often a number stands in a list. Assumes nothing.
 use mathlib.Core.Bool.{true, false, cond}
 use mathlib.Core.List.{List, [], _∷_, _++_}
 use mathlib.Core.Path.{_≡_, refl, sym, ap, _∙_}
-use Prim.Native.Nat.{ℕ, zero, suc, _+_, _*_, _≤_, _<_}
+use Prim.Native.Nat.{ℕ, _+_, _*_, _≤_, _<_}
 use native.Mathlib.Nat.{zero-add, zero-lt-suc}
 use native.Mathlib.Omega.{arith}
 use lib.Dec.{eqb}
 use lib.ListN.{length}
 use borrow.Author.Tests.{eqb-true, ltb-true, ltb-false, lt-ltb, le-ltb}
-use Rattle.lists.specs.Lists.{tally, sumBy, count, _∈_, has, Once, countIn, without, at, Ascending}
+use Rattle.lists.specs.Lists.{tally, sumBy, count, _∈_, has, Once, countIn, without}
 use Rattle.lists.specs.Tests.{split, eqb-self, eqb-comm}
 use Rattle.lists.specs.Sums.{tally-grows, sumBy-append, sumBy-cong, sumBy-add, sumBy-scale, sumBy-le, sumBy-swap}
 
@@ -90,10 +90,7 @@ countIn-all s (x ∷ l) h =
 
 -- as many members of l stand in s as members of s in l
 pub countIn-comm : (s l : List ℕ) → Once s → Once l → countIn s l ≡ countIn l s
-countIn-comm s l once-s once-l = tallied s l ∙ sumBy-both (λ x. 1) l s once-l once-s ∙ sym (tallied l s)
-  where
-    tallied : (s l : List ℕ) → countIn s l ≡ sumBy (λ x. cond (has x s) 1 0) l
-    tallied s l = sumBy-cong (λ x. split (has x s) (λ e. rw e) (λ e. rw e)) l
+countIn-comm s l once-s once-l = sumBy-both (λ x. 1) l s once-l once-s
 
 -- one more member of s
 pub has-grows : (v x : ℕ) (s : List ℕ) → has x s ≡ true → has x (v ∷ s) ≡ true
@@ -111,34 +108,3 @@ countIn-more v s l h = sumBy-cong more l ∙ sumBy-add (λ x. tally (eqb v x)) (
         split (eqb x v)
         (λ e. let q : x ≡ v = eqb-true x v e in rw q (rw (eqb-self v, h)))
         (λ e. rw (e, eqb-comm v x, e) (simp zero-add))
-
--- ---- members by their places
-
-pub in-at : (l : List ℕ) (k : ℕ) → k < length l → at l k ∈ l
-unfolding at
-in-at [] k h = absurd (omega arith)
-in-at (x ∷ l) zero h = in-first x l
-in-at (x ∷ l) (suc k) h = let z = in-at l k (omega arith) in omega arith
-
-pub at-in : (x : ℕ) (l : List ℕ) → x ∈ l → (k : ℕ) × (k < length l) × (at l k ≡ x)
-unfolding at
-at-in x [] h = absurd (omega arith)
-at-in x (y ∷ l) h =
-    split (eqb x y)
-    (λ e. (0, zero-lt-suc (length l), sym (eqb-true x y e)))
-    (λ e. let w = at-in x l (omega (arith, ap tally e)) in (suc (w .0), omega (arith, w .1), w .2))
-
-pub count-none : (x : ℕ) (l : List ℕ) → ((k : ℕ) → k < length l → at l k ≡ x → ⊥) → count x l ≡ 0
-count-none x l h =
-    split (has x l)
-    (λ e. let w = at-in x l (has-in x l e) in absurd (h (w .0) (w .1) (w .2)))
-    (has-none x l)
-
--- in a list that ascends each member stands once
-pub ascending-once : (l : List ℕ) → Ascending l → Once l
-unfolding at
-ascending-once [] h x = omega arith
-ascending-once (y ∷ l) h x =
-    split (eqb x y)
-    (λ e. omega (arith, ap tally e, count-none x l (λ k g q. let z = h 0 (suc k) (zero-lt-suc k) (omega arith) in omega (arith, eqb-true x y e))))
-    (λ e. omega (arith, ap tally e, ascending-once l (λ j k g w. h (suc j) (suc k) (omega arith) (omega arith)) x))

@@ -3,6 +3,7 @@ pub mod Below
 pub mod Tests
 pub mod Sums
 pub mod Counts
+pub mod Places
 pub mod Loops
 pub mod Range
 pub mod Writes

@@ -1,6 +1,6 @@
 -- Lists of numbers: sums and counts over their members, entries by place, and lists written into a slice.
 -- Definitions only. Assumes nothing.
-use mathlib.Core.Bool.{Bool, true, false, cond}
+use mathlib.Core.Bool.{Bool, cond}
 use mathlib.Core.List.{List, [], _∷_, _++_}
 use Prim.Native.Nat.{ℕ, _+_, _≤_, _<_}
 use lib.Dec.{eqb, ltb}
@@ -8,8 +8,7 @@ use lib.ListN.{length, getD, take, drop}
 
 -- 1 where a test passes, 0 where it fails
 abbrev pub tally : Bool → ℕ
-tally true = 1
-tally false = 0
+tally b = cond b 1 0
 
 module _ {ℓ} {A : Type ℓ} where
   -- the sum of f x over the members x of a list

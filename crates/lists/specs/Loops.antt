@@ -1,4 +1,4 @@
--- Laws for loops that count up to a bound: a turn, the end, and what a test over all numbers below the bound says.
+-- Laws for loops that count up to a bound: the start, a turn, the end, and what a test over the numbers below the bound says.
 -- Assumes nothing.
 use mathlib.Core.Bool.{Bool, true, false, cond, _&&_, _||_, true≢false}
 use mathlib.Core.List.{List, [], _∷_, _++_}
@@ -8,8 +8,12 @@ use Prim.Native.Nat.{ℕ, zero, suc, _+_, _≤_, _<_}
 use native.Mathlib.Nat.{not-suc-le-zero, eq-or-lt-of-le, le-of-suc-le-suc}
 use native.Mathlib.Numerals.{add-one}
 use native.Mathlib.Omega.{arith}
+use lib.ListN.{length, getD, take}
+use lib.Seq.{take-suc}
+use Rattle.lists.specs.Lists.{sumBy, at}
 use Rattle.lists.specs.Below.{allBelow, anyBelow, sumBelow, joinBelow, mapBelow, listBelow}
 use Rattle.lists.specs.Tests.{split, fails, never-both, and-both, and-left, and-right, or-left, or-right}
+use Rattle.lists.specs.Sums.{sumBy-append}
 
 -- a number below n + 1 is n, or below n
 pub last-or : {i n : ℕ} → i < suc n → (i ≡ n) ⊎ (i < n)
@@ -18,6 +22,32 @@ last-or h = eq-or-lt-of-le (le-of-suc-le-suc h)
 -- what holds where the loop ends holds at its bound
 pub by-end : (P : ℕ → Type 0) {i n : ℕ} → P i → i ≤ n → n ≤ i → P n
 by-end P {i} {n} p l g = let e : i ≡ n = omega arith in subst P e p
+
+-- ---- the start, where no number is below the bound
+
+pub allBelow-start : (p : ℕ → Bool) → allBelow 0 p ≡ true
+unfolding allBelow
+allBelow-start p = refl
+
+pub anyBelow-start : (p : ℕ → Bool) → anyBelow 0 p ≡ false
+unfolding anyBelow
+anyBelow-start p = refl
+
+pub sumBelow-start : (f : ℕ → ℕ) → sumBelow 0 f ≡ 0
+unfolding sumBelow
+sumBelow-start f = refl
+
+pub joinBelow-start : (f : ℕ → List ℕ) → joinBelow 0 f ≡ []
+unfolding joinBelow
+joinBelow-start f = refl
+
+pub mapBelow-start : (f : ℕ → ℕ) → mapBelow 0 f ≡ []
+unfolding mapBelow joinBelow
+mapBelow-start f = refl
+
+pub listBelow-start : (p : ℕ → Bool) → listBelow 0 p ≡ []
+unfolding listBelow joinBelow
+listBelow-start p = refl
 
 -- ---- a turn
 
@@ -44,6 +74,11 @@ mapBelow-next n f = joinBelow-next n (λ i. f i ∷ [])
 pub listBelow-next : (n : ℕ) (p : ℕ → Bool) → listBelow (n + 1) p ≡ listBelow n p ++ cond (p n) (n ∷ []) []
 unfolding listBelow
 listBelow-next n p = joinBelow-next n (λ i. cond (p i) (i ∷ []) [])
+
+-- along a list
+pub sumBy-take-next : (f : ℕ → ℕ) (l : List ℕ) (k : ℕ) → k < length l → sumBy f (take (k + 1) l) ≡ sumBy f (take k l) + f (at l k)
+unfolding at
+sumBy-take-next f l k h = rw (add-one, take-suc l k 0) (omega (arith, sumBy-append f (take k l) (getD l k 0 ∷ [])))
 
 -- ---- every number passes
 

@@ -14,7 +14,8 @@ use Rattle.lists.specs.Lists.{tally, sumBy, count, _∈_, has, Once, at,
 use Rattle.lists.specs.Below.{sumBelow, countBelow, joinBelow, mapBelow, listBelow, range}
 use Rattle.lists.specs.Tests.{split, passes, and-left, and-right}
 use Rattle.lists.specs.Sums.{tally-le, tally-and, sumBy-append, sumBy-add, sumBy-le}
-use Rattle.lists.specs.Counts.{count-append, sumBy-cong-in, sumBy-single, in-at}
+use Rattle.lists.specs.Counts.{count-append, sumBy-cong-in, sumBy-single}
+use Rattle.lists.specs.Places.{in-at}
 use Rattle.lists.specs.Loops.{last-or}
 
 -- ---- sums

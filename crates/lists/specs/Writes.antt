@@ -9,13 +9,14 @@ use lib.ListN.{length, set, take, drop, length-append, length-take, length-drop,
 use lib.Seq.{drop-cons, append-snoc, set-at, take-at, drop-append-add, drop-drop, length-take-le, set-append-left, take-set-lt, drop-set-lt}
 use Rattle.lists.specs.Lists.{put}
 
-pub put-none : (t : List ℕ) (i : ℕ) → put t i [] ≡ t
-unfolding put
-put-none t i = rw add-zero (take-append-drop i t)
-
+-- what is written at the front, and behind it the rest as it was
 pub put-front : (t vs : List ℕ) → put t 0 vs ≡ vs ++ drop (length vs) t
 unfolding put
 put-front t vs = ap (λ k. vs ++ drop k t) (zero-add (length vs))
+
+pub put-none : (t : List ℕ) (i : ℕ) → put t i [] ≡ t
+unfolding put
+put-none t i = rw add-zero (take-append-drop i t)
 
 module _ (t : List ℕ) (i : ℕ) (vs : List ℕ) where
   head-length : i ≤ length t → length (take i t ++ vs) ≡ i + length vs
