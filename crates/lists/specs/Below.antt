@@ -1,4 +1,4 @@
--- Tests, sums, counts and lists over the numbers 0, 1, .. below a bound. Each takes the bound's last number last, as a counting loop does.
+-- Tests, sums, counts and lists over the numbers 0, 1, .. below a bound. Recursion goes from the end: one step is one turn of a counting loop.
 -- Definitions only. Assumes nothing.
 use mathlib.Core.Bool.{Bool, true, false, cond, _&&_, _||_}
 use mathlib.Core.List.{List, [], _∷_, _++_}

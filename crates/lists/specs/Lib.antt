@@ -1,5 +1,7 @@
+-- The vocabulary of sums, tests, counts and lists: definitions, computed examples, then laws.
 pub mod Lists
 pub mod Below
+pub mod Examples
 pub mod Tests
 pub mod Sums
 pub mod Counts
@@ -7,4 +9,3 @@ pub mod Places
 pub mod Loops
 pub mod Range
 pub mod Writes
-pub mod Examples
