@@ -4,7 +4,7 @@ use mathlib.Core.List.{List, [], _∷_}
 use mathlib.Core.Logic.{⊎-elim}
 use mathlib.Core.Path.{_≡_, refl, sym, ap, ap₂, _∙_, subst}
 use Prim.Native.Nat.{ℕ, suc, _+_, _*_, _<_}
-use native.Mathlib.Nat.{zero-add, mul-one, eq-zero-or-pos}
+use native.Mathlib.Nat.{zero-add, eq-zero-or-pos}
 use native.Mathlib.Omega.{arith}
 use lib.Dec.{eqb}
 use lib.ListN.{length}
@@ -12,7 +12,7 @@ use borrow.Author.Tests.{eq-eqb, eqb-true, ne-eqb, lt-ltb}
 use Rattle.lists.specs.Lists.{tally, count, _∈_, has, Once}
 use Rattle.lists.specs.Below.{range}
 use Rattle.lists.specs.Tests.{split, passes, eqb-self, eqb-comm}
-use Rattle.lists.specs.Sums.{sumBy-const}
+use Rattle.lists.specs.Sums.{sumBy-ones}
 use Rattle.lists.specs.Counts.{in-has, in-first}
 use Rattle.lists.specs.Range.{length-range, count-range, range-once}
 use Rattle.game.specs.Orders.{orders, factorial, same, times, EveryOrderOnce}
@@ -28,7 +28,7 @@ overOrders-one [] = refl
 overOrders-one (x ∷ xs) = overOrders-ignores x xs (λ l. 1) (λ p s. refl) ∙ ap (λ n. suc (length xs) * n) (overOrders-one xs)
 
 how-many : (xs : List ℕ) → length (orders xs) ≡ factorial (length xs)
-how-many xs = sym (sumBy-const 1 (orders xs) ∙ mul-one (length (orders xs))) ∙ sum-orders xs (λ l. 1) ∙ overOrders-one xs
+how-many xs = sym (sumBy-ones (orders xs)) ∙ sum-orders xs (λ l. 1) ∙ overOrders-one xs
 
 -- ---- what stands among them is an order
 

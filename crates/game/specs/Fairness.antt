@@ -48,11 +48,11 @@ pub assemble : (g : Game) (ps : List ℕ) (L v : ℕ) (part : ℕ → ℕ)
     → sumBy part ps * factorial (length ps) ≡ L * sumBy (gain g ps v) (orders ps)
 assemble g ps L v part h =
     let n = factorial (length ps) in
-    let earned : ℕ → ℕ = λ u. g .weight u * pivots g ps v u in
+    let made : ℕ → ℕ = λ u. g .weight u * pivots g ps v u in
     sumBy part ps * n ≡⟨ mul-comm (sumBy part ps) n ∙ sym (sumBy-scale n part ps) ⟩
     sumBy (λ u. n * part u) ps ≡⟨ sumBy-cong-in ps (λ u hu. mul-comm n (part u) ∙ h u hu) ⟩
-    sumBy (λ u. L * earned u) ps ≡⟨ sumBy-scale L earned ps ⟩
-    L * sumBy earned ps ≡⟨ ap (λ x. L * x) (sym (gains g ps v)) ⟩
+    sumBy (λ u. L * made u) ps ≡⟨ sumBy-scale L made ps ⟩
+    L * sumBy made ps ≡⟨ ap (λ x. L * x) (sym (gains g ps v)) ⟩
     L * sumBy (gain g ps v) (orders ps) ∎
 
 -- ---- the formula's terms
@@ -72,11 +72,11 @@ own-right k d L N n hk hL e =
     (λ t. let h = leb-false k d t in
     rw t (ap (λ m. L * m) (sym (eq-of-mul-eq-mul-right (d + 1) (omega arith) N n (e ∙ ap (λ m. n * m) (min-eq-right {n = d + 1} {m = k} (omega arith)))))))
 
-neighbour-right : (k d L N n : ℕ) → 0 < d → (0 < d → d * (d + 1) ∣ L) → N * (d * (d + 1)) ≡ n * (d + 1 - k) → neighbourTerm k d L * n ≡ L * N
+neighbour-right : (k d L N n : ℕ) → 0 < d → d * (d + 1) ∣ L → N * (d * (d + 1)) ≡ n * (d + 1 - k) → neighbourTerm k d L * n ≡ L * N
 unfolding neighbourTerm
 neighbour-right k d L N n hd hL e =
     split (leb k d)
-    (λ t. rw t (spread (d + 1 - k) (L / (d * (d + 1))) (d * (d + 1)) N n L (div-mul-cancel (d * (d + 1)) (hL hd)) e))
+    (λ t. rw t (spread (d + 1 - k) (L / (d * (d + 1))) (d * (d + 1)) N n L (div-mul-cancel (d * (d + 1)) hL) e))
     (λ t. let h = leb-false k d t in
     let none : N ≡ 0 = eq-of-mul-eq-mul-right (d * (d + 1)) (mul-pos hd (omega arith)) N 0
     (e ∙ ap (λ m. n * m) (sub-eq-zero-of-le {n = d + 1} {m = k} (omega arith)) ∙ omega arith) in
@@ -110,8 +110,9 @@ earned-right g ps on L common v u hu =
     (omega (arith, ap (λ x. w * x) (own-right k d L (pivots g ps u u) n (on .needs u hu) (common u hu) (own-pivots g ps on u hu)))))
     (λ e. split (has v ws)
     (λ t. let hv = has-in v ws t in
+    let hd = in-length v ws hv in
     rw (e, t)
-    (omega (arith, ap (λ x. w * x) (neighbour-right k d L (pivots g ps v u) n (in-length v ws hv) (common u hu) (watcher-pivots g ps on u hu v hv)))))
+    (omega (arith, ap (λ x. w * x) (neighbour-right k d L (pivots g ps v u) n hd (common u hu hd) (watcher-pivots g ps on u hu v hv)))))
     (λ t. rw (e, t) (omega (arith, ap (λ x. L * (w * x)) (far-pivots g ps v u e t)))))
 
 -- THE THEOREM, for every list of players without repeats, every game on it, every common denominator and every player

@@ -11,14 +11,10 @@ use borrow.Author.Tests.{eqb-true}
 use Rattle.lists.specs.Lists.{tally, sumBy, count, _∈_, has, without}
 use Rattle.lists.specs.Tests.{split, eqb-self}
 use Rattle.lists.specs.Counts.{has-in, has-none, in-first, count-append, count-without}
-use Rattle.game.specs.Orders.{orders, factorial, before}
+use Rattle.game.specs.Orders.{orders, factorial, before, Ignores}
 use Rattle.game.specs.Arrange.{overInsertions, overOrders, sum-orders, overOrders-cong, overOrders-scale, overOrders-order, OrderOf, length-order, order-of-counts}
 
--- the value of f does not change when r is put in, at any place
-abbrev pub Ignores : ℕ → (List ℕ → ℕ) → Type 0
-Ignores r f = (p s : List ℕ) → f (p ++ r ∷ s) ≡ f (p ++ s)
-
--- so each of the places for r counts f once
+-- each of the places for a player that f ignores counts f once
 overInsertions-ignores : (r : ℕ) (l : List ℕ) (f : List ℕ → ℕ) → Ignores r f → overInsertions r l f ≡ suc (length l) * f l
 overInsertions-ignores r [] f h = omega (arith, h [] [])
 overInsertions-ignores r (y ∷ l) f h = omega (arith, h [] (y ∷ l), overInsertions-ignores r l (λ m. f (y ∷ m)) (λ p s. h (y ∷ p) s))

@@ -1,7 +1,7 @@
 -- Orders of fitting: every list of the players in which each of them stands once.
 -- Definitions only. Assumes nothing.
 use mathlib.Core.Bool.{Bool, true, false, cond, _&&_}
-use mathlib.Core.List.{List, [], _∷_, map, flatMap}
+use mathlib.Core.List.{List, [], _∷_, _++_, map, flatMap}
 use mathlib.Core.Path.{_≡_}
 use Prim.Native.Nat.{ℕ, zero, suc, _*_, _<_}
 use lib.Dec.{eqb, ltb}
@@ -26,6 +26,10 @@ factorial (suc n) = suc n * factorial n
 abbrev pub before : ℕ → List ℕ → List ℕ
 before v [] = []
 before v (x ∷ l) = cond (eqb v x) [] (x ∷ before v l)
+
+-- f goes by the other players only: putting r in, at any place, changes nothing
+abbrev pub Ignores : ℕ → (List ℕ → ℕ) → Type 0
+Ignores r f = (p s : List ℕ) → f (p ++ r ∷ s) ≡ f (p ++ s)
 
 -- l is an order of n buses (01's term): each bus from 0 to n - 1 stands in it once, and nothing else does
 abbrev pub IsOrder : ℕ → List ℕ → Type 0

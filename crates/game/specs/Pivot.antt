@@ -15,10 +15,10 @@ use Rattle.lists.specs.Tests.{split, eqb-self, eqb-comm}
 use Rattle.lists.specs.Sums.{sumBy-cong, sumBy-zero}
 use Rattle.lists.specs.Counts.{in-has, has-none, in-first, count-append, sumBy-cong-in, countIn-all, countIn-comm, countIn-more}
 use Rattle.lists.specs.Range.{sumBelow-single}
-use Rattle.game.specs.Orders.{orders, factorial, before}
+use Rattle.game.specs.Orders.{orders, factorial, before, Ignores}
 use Rattle.game.specs.Game.{Game, degree, seen, GameOn}
 use Rattle.game.specs.Arrange.{overInsertions, overOrders, sum-orders, overInsertions-cong, overOrders-cong, overOrders-order, OrderOf, inserted-in, count-order, length-order, order-of-counts}
-use Rattle.game.specs.Joining.{Ignores, overInsertions-const, overInsertions-before, before-ignores, joining, one-last}
+use Rattle.game.specs.Joining.{overInsertions-const, overInsertions-before, before-ignores, joining, one-last}
 use Rattle.game.specs.Rank.{rank}
 
 -- 1 where a recorder at v, fitted after those at s, makes u seen, and 0 otherwise

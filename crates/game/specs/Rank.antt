@@ -1,4 +1,5 @@
 -- At which place a player stands: each place equally often. Assumes nothing.
+use mathlib.Core.Bool.{false}
 use mathlib.Core.List.{List, [], _∷_, _++_}
 use mathlib.Core.Path.{_≡_, ap, ap₂, _∙_}
 use Prim.Native.Nat.{ℕ, zero, suc, _+_, _-_, _*_, _≤_}
@@ -6,7 +7,6 @@ use native.Mathlib.Nat.{sub-add-cancel, le-refl}
 use native.Mathlib.Omega.{arith}
 use lib.Dec.{eqb}
 use lib.ListN.{length, length-append}
-use mathlib.Core.Bool.{false}
 use Rattle.lists.specs.Lists.{tally, count}
 use Rattle.lists.specs.Below.{sumBelow}
 use Rattle.lists.specs.Tests.{fails, eqb-self}

@@ -47,9 +47,9 @@ module _ (g : Game) (ps : List ℕ) (on : GameOn ps g) (L : ℕ) (common : Commo
   pub total : sumBy (λ v. numerator g ps v L) ps ≡ L * sumBy (g .weight) ps
   unfolding numerator
   total =
-      let earned : ℕ → ℕ → ℕ = λ v u. cond (has v (g .watch u)) (neighbour g L u) 0 in
-      sumBy-add (own g L) (λ v. sumBy (earned v) ps) ps
-      ∙ ap (λ n. sumBy (own g L) ps + n) (sumBy-swap earned ps ps)
-      ∙ sym (sumBy-add (own g L) (λ u. sumBy (λ v. earned v u) ps) ps)
+      let paid : ℕ → ℕ → ℕ = λ v u. cond (has v (g .watch u)) (neighbour g L u) 0 in
+      sumBy-add (own g L) (λ v. sumBy (paid v) ps) ps
+      ∙ ap (λ n. sumBy (own g L) ps + n) (sumBy-swap paid ps ps)
+      ∙ sym (sumBy-add (own g L) (λ u. sumBy (λ v. paid v u) ps) ps)
       ∙ sumBy-cong-in ps shared
       ∙ sumBy-scale L (g .weight) ps

@@ -7,10 +7,10 @@ use native.Mathlib.Nat.{mul-le-mul-left}
 use native.Mathlib.Omega.{arith}
 use lib.Dec.{leb}
 use borrow.Author.Tests.{leb-true, le-leb, lt-leb}
-use Rattle.lists.specs.Lists.{tally, has, countIn}
+use Rattle.lists.specs.Lists.{tally, has}
 use Rattle.lists.specs.Tests.{split, or-left, or-right}
 use Rattle.lists.specs.Sums.{cond-tally, tally-grows, sumBy-cong, sumBy-zero, sumBy-le}
-use Rattle.lists.specs.Counts.{has-grows, countIn-grows, sumBy-cong-in}
+use Rattle.lists.specs.Counts.{has-grows, countIn-none, countIn-grows, sumBy-cong-in}
 use Rattle.game.specs.Game.{Game, seen, value, GameOn}
 
 -- ---- a list of recorders stands for a set
@@ -45,9 +45,6 @@ unfolding value
 value-grows g ps v s = sumBy-le (λ u. worth-grows (seen g u s) (seen g u (v ∷ s)) _ (seen-grows g u v s)) ps
 
 -- ---- no recorders
-
-countIn-none : (l : List ℕ) → countIn [] l ≡ 0
-countIn-none l = sumBy-zero l
 
 leb-none : (k n : ℕ) → n ≡ 0 → 0 < k → leb k n ≡ false
 leb-none k n e h = lt-leb k n (omega arith)

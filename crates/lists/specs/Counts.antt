@@ -10,7 +10,7 @@ use lib.ListN.{length}
 use borrow.Author.Tests.{eqb-true, ltb-true, ltb-false, lt-ltb, le-ltb}
 use Rattle.lists.specs.Lists.{tally, sumBy, count, _∈_, has, Once, countIn, without}
 use Rattle.lists.specs.Tests.{split, eqb-self, eqb-comm}
-use Rattle.lists.specs.Sums.{tally-grows, sumBy-append, sumBy-cong, sumBy-add, sumBy-scale, sumBy-le, sumBy-swap}
+use Rattle.lists.specs.Sums.{tally-grows, sumBy-append, sumBy-cong, sumBy-add, sumBy-scale, sumBy-zero, sumBy-le, sumBy-swap}
 
 -- ---- members
 
@@ -87,6 +87,9 @@ pub countIn-all : (s l : List ℕ) → ((x : ℕ) → x ∈ l → x ∈ s) → c
 countIn-all s [] h = refl
 countIn-all s (x ∷ l) h =
     omega (arith, ap tally (in-has x s (h x (in-first x l))), countIn-all s l (λ y p. h y (omega arith)))
+
+pub countIn-none : (l : List ℕ) → countIn [] l ≡ 0
+countIn-none l = sumBy-zero l
 
 -- as many members of l stand in s as members of s in l
 pub countIn-comm : (s l : List ℕ) → Once s → Once l → countIn s l ≡ countIn l s

@@ -2,9 +2,9 @@
 use mathlib.Core.Bool.{Bool, true, false, cond, _&&_}
 use mathlib.Core.List.{List, [], _∷_, _++_, append-assoc, append-nil}
 use mathlib.Core.Logic.{⊎-elim}
-use mathlib.Core.Path.{_≡_, refl, sym, ap, ap₂, _∙_}
+use mathlib.Core.Path.{_≡_, refl, sym, ap, ap₂, _∙_, fun-ext}
 use Prim.Native.Nat.{ℕ, zero, suc, _+_, _*_, _≤_, _<_}
-use native.Mathlib.Nat.{not-suc-le-zero, le-refl, le-of-suc-le-suc, eq-or-lt-of-le, mul-comm, mul-one}
+use native.Mathlib.Nat.{not-suc-le-zero, le-refl, le-of-suc-le-suc, eq-or-lt-of-le, add-zero, mul-comm, mul-one}
 use native.Mathlib.Omega.{arith}
 use lib.Dec.{eqb, ltb}
 use lib.ListN.{length, take, drop, length-append, List·getD-append}
@@ -13,7 +13,7 @@ use borrow.Author.Tests.{eqb-true, eqb-false, ltb-true, ltb-false, lt-ltb, le-lt
 use Rattle.lists.specs.Lists.{tally, sumBy, count, _∈_, has, Once, at, Ascending}
 use Rattle.lists.specs.Below.{sumBelow, countBelow, joinBelow, mapBelow, listBelow, range}
 use Rattle.lists.specs.Tests.{split, passes, and-left, and-right}
-use Rattle.lists.specs.Sums.{tally-le, tally-and, sumBy-append, sumBy-add, sumBy-le}
+use Rattle.lists.specs.Sums.{tally-le, tally-and, sumBy-append, sumBy-add, sumBy-ones, sumBy-le}
 use Rattle.lists.specs.Counts.{count-append, sumBy-cong-in, sumBy-single}
 use Rattle.lists.specs.Places.{in-at}
 use Rattle.lists.specs.Loops.{last-or}
@@ -27,9 +27,8 @@ sumBy-joinBelow g (suc n) f = sumBy-append g (joinBelow n f) (f n) ∙ ap (λ s.
 
 -- THE LINK: a sum over the numbers below n is a sum over their list, so the laws of `sumBy` are those of `sumBelow`
 pub sumBy-range : (f : ℕ → ℕ) (n : ℕ) → sumBy f (range n) ≡ sumBelow n f
-unfolding mapBelow joinBelow sumBelow
-sumBy-range f zero = refl
-sumBy-range f (suc n) = omega (arith, sumBy-append f (range n) (n ∷ []), sumBy-range f n)
+unfolding mapBelow
+sumBy-range f n = sumBy-joinBelow f n (λ i. i ∷ []) ∙ ap (sumBelow n) (fun-ext (λ i. add-zero (f i)))
 
 pub count-range : (x n : ℕ) → count x (range n) ≡ tally (ltb x n)
 unfolding mapBelow joinBelow
@@ -76,9 +75,8 @@ countBelow-le p n = omega (arith, sumBelow-le (λ i. tally (p i)) (λ i. 1) n (�
 -- ---- lists
 
 pub length-joinBelow : (n : ℕ) (f : ℕ → List ℕ) → length (joinBelow n f) ≡ sumBelow n (λ i. length (f i))
-unfolding joinBelow sumBelow
-length-joinBelow zero f = refl
-length-joinBelow (suc n) f = length-append (joinBelow n f) (f n) ∙ ap (λ s. s + length (f n)) (length-joinBelow n f)
+length-joinBelow n f =
+    sym (sumBy-ones (joinBelow n f)) ∙ sumBy-joinBelow (λ x. 1) n f ∙ sumBelow-same _ _ n (λ i l. sumBy-ones (f i))
 
 pub length-mapBelow : (n : ℕ) (f : ℕ → ℕ) → length (mapBelow n f) ≡ n
 unfolding mapBelow

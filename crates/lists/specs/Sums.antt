@@ -3,7 +3,7 @@ use mathlib.Core.Bool.{Bool, true, false, cond, _&&_, _||_, true≢false}
 use mathlib.Core.List.{List, [], _∷_, _++_, map, flatMap}
 use mathlib.Core.Path.{_≡_, refl, sym, ap, _∙_, fun-ext}
 use Prim.Native.Nat.{ℕ, _+_, _-_, _*_, _≤_, zero-le}
-use native.Mathlib.Nat.{zero-add, mul-zero, add-le-add}
+use native.Mathlib.Nat.{zero-add, mul-zero, mul-one, add-le-add}
 use native.Mathlib.Omega.{arith}
 use lib.ListN.{length}
 use Rattle.lists.specs.Lists.{tally, sumBy}
@@ -60,6 +60,9 @@ module _ {ℓ} {A : Type ℓ} where
 
   pub sumBy-zero : (l : List A) → sumBy (λ x. 0) l ≡ 0
   sumBy-zero l = sumBy-const 0 l ∙ mul-zero (length l)
+
+  pub sumBy-ones : (l : List A) → sumBy (λ x. 1) l ≡ length l
+  sumBy-ones l = sumBy-const 1 l ∙ mul-one (length l)
 
   pub sumBy-le : {f g : A → ℕ} → ((x : A) → f x ≤ g x) → (l : List A) → sumBy f l ≤ sumBy g l
   sumBy-le h [] = zero-le
