@@ -1,0 +1,4 @@
+pub mod Numbers
+pub mod Outcomes
+pub mod Examples
+pub mod Tells

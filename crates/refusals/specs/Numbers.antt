@@ -1,0 +1,21 @@
+-- 01's number of each refusal: 1 to 9 because of the input, 10 to 14 because of the state lent.
+-- Definitions only. Assumes nothing.
+use Prim.Native.Nat.{ℕ}
+use Rattle.refusals.specs.declared.Refusal.{Refusal}
+use Rattle.refusals.specs.declared.Refusal.the-variants.{FileTooShort, BusCount, Need, LineCount, FileTooLong, LineEnds, CrowdedBus, RepeatedLine, NoDenominator, TableTooShort, NoNetwork, NumeratorsTooShort, NoSuchBus, TextTooShort}
+
+abbrev pub numberOf : Refusal → ℕ
+numberOf FileTooShort = 1
+numberOf BusCount = 2
+numberOf Need = 3
+numberOf LineCount = 4
+numberOf FileTooLong = 5
+numberOf LineEnds = 6
+numberOf CrowdedBus = 7
+numberOf RepeatedLine = 8
+numberOf NoDenominator = 9
+numberOf TableTooShort = 10
+numberOf NoNetwork = 11
+numberOf NumeratorsTooShort = 12
+numberOf NoSuchBus = 13
+numberOf TextTooShort = 14

@@ -1,0 +1,36 @@
+-- A refusal is told by its number. Assumes nothing.
+use mathlib.Core.List.{List, [], _∷_}
+use mathlib.Core.Path.{_≡_, refl, sym, ap, _∙_}
+use Prim.Native.Nat.{ℕ, _-_}
+use lib.ListN.{getD}
+use Rattle.refusals.specs.declared.Refusal.{Refusal}
+use Rattle.refusals.specs.declared.Refusal.the-variants.{FileTooShort, BusCount, Need, LineCount, FileTooLong, LineEnds, CrowdedBus, RepeatedLine, NoDenominator, TableTooShort, NoNetwork, NumeratorsTooShort, NoSuchBus, TextTooShort}
+use Rattle.refusals.specs.Numbers.{numberOf}
+
+-- the refusals in the order of their numbers
+inOrder : List Refusal
+inOrder = FileTooShort ∷ BusCount ∷ Need ∷ LineCount ∷ FileTooLong ∷ LineEnds ∷ CrowdedBus ∷ RepeatedLine ∷ NoDenominator ∷ TableTooShort ∷ NoNetwork ∷ NumeratorsTooShort ∷ NoSuchBus ∷ TextTooShort ∷ []
+
+named : ℕ → Refusal
+named k = getD inOrder (k - 1) TextTooShort
+
+back : (r : Refusal) → named (numberOf r) ≡ r
+unfolding named inOrder
+back FileTooShort = refl
+back BusCount = refl
+back Need = refl
+back LineCount = refl
+back FileTooLong = refl
+back LineEnds = refl
+back CrowdedBus = refl
+back RepeatedLine = refl
+back NoDenominator = refl
+back TableTooShort = refl
+back NoNetwork = refl
+back NumeratorsTooShort = refl
+back NoSuchBus = refl
+back TextTooShort = refl
+
+-- no two refusals have one number
+pub number-tells : (a b : Refusal) → numberOf a ≡ numberOf b → a ≡ b
+number-tells a b e = sym (back a) ∙ ap named e ∙ back b

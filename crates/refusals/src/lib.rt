@@ -1,0 +1,58 @@
+// Why a call is refused: a named case for each cause of 01's two lists, and its number there.
+ghost use mathlib.Core.Path.{_≡_};
+ghost use Rattle.refusals.specs.Numbers.{numberOf};
+
+pub enum Refusal {
+    // The file ends inside a count or section.
+    FileTooShort,
+    // The bus count is 0 or above the limit.
+    BusCount,
+    // A need is 0 or above the limit.
+    Need,
+    // The line count is above the limit.
+    LineCount,
+    // Bytes follow the last record.
+    FileTooLong,
+    // A record names a bus that the network does not have, or one bus twice.
+    LineEnds,
+    // A bus stands in more records than it may have lines.
+    CrowdedBus,
+    // Two records name the same pair, either way round.
+    RepeatedLine,
+    // Cancel is given denominator 0.
+    NoDenominator,
+    // Too few entries are lent for the line table.
+    TableTooShort,
+    // The slice holds no network.
+    NoNetwork,
+    // Too few entries are lent for the numerators.
+    NumeratorsTooShort,
+    // The network does not have the bus, or the sheet does not have the line.
+    NoSuchBus,
+    // Too few bytes are lent for the sheet line.
+    TextTooShort,
+}
+
+impl Refusal {
+    // The number that programs print and C callers are given.
+    pub fn number(self) -> u8
+        ensures { λ r. ⌜ r ≡ numberOf self ⌝ }
+    {
+        match self {
+            Refusal::FileTooShort => 1,
+            Refusal::BusCount => 2,
+            Refusal::Need => 3,
+            Refusal::LineCount => 4,
+            Refusal::FileTooLong => 5,
+            Refusal::LineEnds => 6,
+            Refusal::CrowdedBus => 7,
+            Refusal::RepeatedLine => 8,
+            Refusal::NoDenominator => 9,
+            Refusal::TableTooShort => 10,
+            Refusal::NoNetwork => 11,
+            Refusal::NumeratorsTooShort => 12,
+            Refusal::NoSuchBus => 13,
+            Refusal::TextTooShort => 14,
+        }
+    }
+}
