@@ -2,7 +2,7 @@
 -- Definitions only. Assumes nothing.
 use mathlib.Core.Bool.{Bool, cond}
 use mathlib.Core.List.{List, [], _∷_, _++_}
-use Prim.Native.Nat.{ℕ, _+_, _≤_, _<_}
+use Prim.Native.Nat.{ℕ, _+_, _-_, _≤_, _<_}
 use lib.Dec.{eqb, ltb}
 use lib.ListN.{length, getD, take, drop}
 
@@ -49,6 +49,10 @@ without s (x ∷ l) = cond (has x s) (without s l) (x ∷ without s l)
 -- entry k of a list; past its end a list has zeros
 unfoldable pub at : List ℕ → ℕ → ℕ
 at l k = getD l k 0
+
+-- the entries from place a up to, not including, place e
+abbrev pub part : ℕ → ℕ → List ℕ → List ℕ
+part a e l = take (e - a) (drop a l)
 
 -- each entry of a list is above those before it
 abbrev pub Ascending : List ℕ → Type 0

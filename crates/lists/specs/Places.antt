@@ -1,17 +1,18 @@
 -- Laws of a list's entries by their places. Assumes nothing.
 use mathlib.Core.Bool.{cond}
-use mathlib.Core.List.{List, [], _∷_}
-use mathlib.Core.Path.{_≡_, refl, sym, ap}
-use Prim.Native.Nat.{ℕ, zero, suc, _<_}
+use mathlib.Core.List.{List, [], _∷_, _++_}
+use mathlib.Core.Path.{_≡_, refl, sym, ap, _∙_}
+use Prim.Native.Nat.{ℕ, zero, suc, _+_, _-_, _≤_, _<_}
 use native.Mathlib.Nat.{zero-lt-suc}
 use native.Mathlib.Omega.{arith}
-use lib.Dec.{eqb}
-use lib.ListN.{length, set, replicate}
-use lib.Seq.{getD-set-same, getD-set-other}
-use borrow.Author.Tests.{eqb-true, eqb-false}
-use Rattle.lists.specs.Lists.{tally, count, _∈_, has, Once, at, Ascending}
+use lib.Dec.{eqb, ltb, leb}
+use lib.ListN.{length, set, replicate, take, drop, length-take, length-drop}
+use lib.Seq.{getD-set-same, getD-set-other, getD-take, getD-drop, take-append-le, drop-append-le}
+use borrow.Author.Tests.{eqb-true, eqb-false, ltb-true, ltb-false, leb-true, leb-false, lt-ltb, le-ltb, ne-eqb}
+use Rattle.lists.specs.Lists.{tally, countBy, count, _∈_, has, Once, at, part, Ascending}
 use Rattle.lists.specs.Tests.{split}
-use Rattle.lists.specs.Counts.{has-in, has-none, in-first}
+use Rattle.lists.specs.Sums.{sumBy-cong, sumBy-add, sumBy-zero}
+use Rattle.lists.specs.Counts.{has-in, has-none, in-first, sumBy-cong-in}
 
 pub at-zeros : (n k : ℕ) → at (replicate n 0) k ≡ 0
 unfolding at
@@ -26,6 +27,27 @@ at-set l i x k h =
     split (eqb k i)
     (λ e. let q : k ≡ i = eqb-true k i e in rw e (rw q (getD-set-same l i x 0 h)))
     (λ e. rw e (getD-set-other l i k x 0 (eqb-false k i e)))
+
+pub at-take : (n : ℕ) (l : List ℕ) (k : ℕ) → k < n → at (take n l) k ≡ at l k
+unfolding at
+at-take n l k h = getD-take n l k 0 h
+
+-- ---- parts
+
+pub length-part : (a e : ℕ) (l : List ℕ) → e ≤ length l → length (part a e l) ≡ e - a
+length-part a e l h = simp (length-take, length-drop) (omega arith)
+
+pub at-part : (a e : ℕ) (l : List ℕ) (k : ℕ) → k < e - a → at (part a e l) k ≡ at l (a + k)
+unfolding at
+at-part a e l k h = rw (getD-take, getD-drop)
+
+-- what stands behind a part does not matter to it
+pub part-append : (a e : ℕ) (l m : List ℕ) → e ≤ length l → part a e (l ++ m) ≡ part a e l
+part-append a e l m h =
+    split (leb a (length l))
+    (λ t. let g = leb-true a (length l) t in
+    ap (take (e - a)) (drop-append-le a l m g) ∙ take-append-le (e - a) (drop a l) m (omega (arith, length-drop a l)))
+    (λ t. let g = leb-false a (length l) t in let z : e - a ≡ 0 = omega arith in rw z)
 
 -- ---- members
 
@@ -57,3 +79,42 @@ ascending-once (y ∷ l) h x =
     split (eqb x y)
     (λ e. omega (arith, ap tally e, count-none x l (λ k g q. let z = h 0 (suc k) (zero-lt-suc k) (omega arith) in omega (arith, eqb-true x y e))))
     (λ e. omega (arith, ap tally e, ascending-once l (λ j k g w. h (suc j) (suc k) (omega arith) (omega arith)) x))
+
+-- one number more is below i + 1 than below i: i itself
+under-next : (i y : ℕ) → tally (ltb y (i + 1)) ≡ tally (ltb y i) + tally (eqb i y)
+under-next i y =
+    split (ltb y i)
+    (λ a. let g = ltb-true y i a in rw (a, lt-ltb y (i + 1) (omega arith), ne-eqb i y (omega arith)))
+    (λ a. let g = ltb-false y i a in split (eqb i y)
+    (λ b. let q = eqb-true i y b in rw (a, b, lt-ltb y (i + 1) (omega arith)))
+    (λ b. let d : i ≡ y → ⊥ = eqb-false i y b in rw (a, b, le-ltb y (i + 1) (omega (arith, d)))))
+
+pub count-under-next : (i : ℕ) (l : List ℕ) → countBy (λ y. ltb y (i + 1)) l ≡ countBy (λ y. ltb y i) l + count i l
+count-under-next i l = sumBy-cong (under-next i) l ∙ sumBy-add (λ y. tally (ltb y i)) (λ y. tally (eqb i y)) l
+
+-- a list that ascends: its first entry is below the others
+module _ (x y : ℕ) (l : List ℕ) (h : Ascending (y ∷ l)) where
+  above : (z : ℕ) → z ∈ l → y < z
+  unfolding at
+  above z i = let w = at-in z l i in omega (arith, h 0 (suc (w .0)) (zero-lt-suc (w .0)) (omega (arith, w .1)), w .2)
+
+  is-first : x ∈ (y ∷ l) → x ≤ y → y ≡ x
+  is-first m g =
+      split (eqb x y) (λ e. sym (eqb-true x y e)) (λ e. absurd (let z = above x (omega (arith, ap tally e)) in omega arith))
+
+  none-under : x ≤ y → countBy (λ z. ltb z x) l ≡ 0
+  none-under g = sumBy-cong-in l (λ z i. let w = above z i in ap tally (le-ltb z x (omega arith))) ∙ sumBy-zero l
+
+-- and a member stands behind just those below it
+pub ascending-place : (x : ℕ) (l : List ℕ) → Ascending l → x ∈ l
+    → (countBy (λ y. ltb y x) l < length l) × (at l (countBy (λ y. ltb y x) l) ≡ x)
+unfolding at
+ascending-place x [] h m = absurd (omega arith)
+ascending-place x (y ∷ l) h m =
+    split (ltb y x)
+    (λ e. let g = ltb-true y x e in
+    let w = ascending-place x l (λ j k a b. h (suc j) (suc k) (omega arith) (omega arith)) (omega (arith, ap tally (ne-eqb x y (omega arith)))) in
+    let c = countBy (λ z. ltb z x) l in
+    let q : 1 + c ≡ suc c = omega arith in
+    rw e (omega (arith, w .0), ap (at (y ∷ l)) q ∙ w .1))
+    (λ e. let g = ltb-false y x e in rw (e, none-under x y l h g) (omega arith, is-first x y l h m g))

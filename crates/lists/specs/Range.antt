@@ -14,7 +14,7 @@ use Rattle.lists.specs.Lists.{tally, sumBy, count, _∈_, has, Once, at,
 use Rattle.lists.specs.Below.{sumBelow, countBelow, joinBelow, mapBelow, listBelow, range}
 use Rattle.lists.specs.Tests.{split, passes, and-left, and-right}
 use Rattle.lists.specs.Sums.{tally-le, tally-and, sumBy-append, sumBy-add, sumBy-ones, sumBy-le}
-use Rattle.lists.specs.Counts.{count-append, sumBy-cong-in, sumBy-single}
+use Rattle.lists.specs.Counts.{count-append, sumBy-cong-in, sumBy-single, sumBy-part}
 use Rattle.lists.specs.Places.{in-at}
 use Rattle.lists.specs.Loops.{last-or}
 
@@ -71,6 +71,26 @@ sumBelow-single g k n = sym (sumBy-range (λ i. g i * tally (eqb k i)) n) ∙ su
 
 pub countBelow-le : (p : ℕ → Bool) (n : ℕ) → countBelow n p ≤ n
 countBelow-le p n = omega (arith, sumBelow-le (λ i. tally (p i)) (λ i. 1) n (λ i. tally-le (p i)), sumBelow-const 1 n)
+
+-- of a table of numbers that is the same both ways, with zeros on the diagonal, the part below the diagonal is half
+pub sumBelow-mirror : (f : ℕ → ℕ → ℕ) (n : ℕ) → ((i j : ℕ) → i < n → j < n → f i j ≡ f j i) → ((i : ℕ) → i < n → f i i ≡ 0)
+    → sumBelow n (λ i. sumBelow n (f i)) ≡ 2 * sumBelow n (λ i. sumBelow i (f i))
+unfolding sumBelow
+sumBelow-mirror f zero h d = refl
+sumBelow-mirror f (suc n) h d =
+    omega
+    (arith,
+      sumBelow-add (λ i. sumBelow n (f i)) (λ i. f i n) n,
+      sumBelow-same (λ i. f i n) (f n) n (λ i l. h i n (omega arith) (omega arith)),
+      sumBelow-mirror f n (λ i j a b. h i j (omega arith) (omega arith)) (λ i a. d i (omega arith)),
+      d n (omega arith))
+
+-- a list without repeats is as long as it has members
+pub length-members : (n : ℕ) (l : List ℕ) → Once l → ((x : ℕ) → x ∈ l → x < n) → length l ≡ countBelow n (λ x. has x l)
+length-members n l once low =
+    sym (sumBy-ones l)
+    ∙ sym (sumBy-part (λ x. 1) (range n) l (range-once n) once (λ x m. in-range x n (low x m)))
+    ∙ sumBy-range (λ x. tally (has x l)) n
 
 -- ---- lists
 

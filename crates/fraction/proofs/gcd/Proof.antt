@@ -1,0 +1,87 @@
+-- `fraction::gcd` meets its contract. Each turn keeps the greatest common divisor and makes the sum smaller. Assumes nothing.
+use mathlib.Core.Path.{refl}
+use Prim.Native.Nat.{_+_}
+use native.Mathlib.Omega.{arith}
+use lib.Count.{trailing-le}
+use borrow.Author.Needs.{needs}
+use Rattle.fraction.specs.Divisors.{gcdOf}
+use Rattle.fraction.specs.Gcd.{gcd-zero, gcd-flip}
+use Rattle.fraction.specs.Odd.{twos-below}
+use Rattle.fraction.proofs.Binary.{Odds, turn, agreed}
+use Rattle.fraction.proofs.gcd.Statement.{statement}
+use Rattle.fraction.proofs.gcd.Tie as tie
+
+abbrev Inv-loop : tie.InvT-loop
+Inv-loop x y twos a₀ b₀ a b = Odds (gcdOf a₀ b₀) a b
+
+abbrev μ-loop : tie.MeasureT-loop
+μ-loop x y twos a₀ b₀ a b = a + b
+
+returns : tie.Need-returns Inv-loop μ-loop
+returns c = rw (c .if1 .taken) (gcd-flip (gcd-zero _))
+
+returns-2 : tie.Need-returns-2 Inv-loop μ-loop
+returns-2 c = rw (c .if2 .taken) (gcd-zero _)
+
+cast-least : tie.Need-cast-least Inv-loop μ-loop
+cast-least c = omega (arith, trailing-le 64 (c .before .before .args .x))
+
+cast-least-2 : tie.Need-cast-least-2 Inv-loop μ-loop
+cast-least-2 c = omega (arith, trailing-le 64 (c .before .before .args .y))
+
+least-requires : tie.Need-least-requires Inv-loop μ-loop
+least-requires c κs = tt
+
+odd-part-requires : tie.Need-odd-part-requires Inv-loop μ-loop
+odd-part-requires c κs = omega arith
+
+odd-part-requires-2 : tie.Need-odd-part-requires-2 Inv-loop μ-loop
+odd-part-requires-2 c κs = omega arith
+
+loop-holds : tie.Need-loop-holds Inv-loop μ-loop
+loop-holds c = record { left = c .before .odd-part .ensures .odd; right = c .odd-part2 .ensures .odd; kept = refl }
+
+gap-requires : tie.Need-gap-requires Inv-loop μ-loop
+gap-requires c κs = tt
+
+odd-part-requires-3 : tie.Need-odd-part-requires-3 Inv-loop μ-loop
+odd-part-requires-3 c κs = omega arith
+
+least-requires-2 : tie.Need-least-requires-2 Inv-loop μ-loop
+least-requires-2 c κs = tt
+
+loop-less : tie.Need-loop-less Inv-loop μ-loop
+loop-less c = omega arith
+
+loop-again : tie.Need-loop-again Inv-loop μ-loop
+loop-again c = turn (c .before .before .before .before .loop .inv) (c .before .before .gap .ensures) (c .before .odd-part3 .ensures) (c .least2 .ensures)
+
+returns-3 : tie.Need-returns-3 Inv-loop μ-loop
+returns-3 c =
+    agreed (omega arith) (search needs) (c .before .before .before .odd-part .ensures) (c .before .before .odd-part2 .ensures) (c .before .loop .inv)
+    (omega arith) (c .before .before .before .before .least .ensures)
+
+shl-result : tie.Need-shl-result Inv-loop μ-loop
+shl-result c = omega (arith, twos-below (c .before .before .before .before .before .before .before .args .x) (omega arith) (search needs))
+
+pub gcd-spec : {M : Type 1} → statement M
+gcd-spec =
+    tie.close
+    (tie.spec
+    Inv-loop
+    μ-loop
+    returns
+    returns-2
+    cast-least
+    cast-least-2
+    least-requires
+    odd-part-requires
+    odd-part-requires-2
+    loop-holds
+    gap-requires
+    odd-part-requires-3
+    least-requires-2
+    loop-less
+    loop-again
+    shl-result
+    returns-3)

@@ -1,0 +1,181 @@
+-- Each test of a table passes exactly where its facts hold: `…-facts` and `…-test`. `holds-facts` and `holds-test` are the two together.
+-- Assumes nothing.
+use mathlib.Core.Bool.{Bool, true, false, not, _&&_}
+use mathlib.Core.List.{List}
+use mathlib.Core.Path.{_≡_, refl, sym, ap, _∙_}
+use Prim.Native.Nat.{ℕ, _+_, _≤_, _<_}
+use native.Mathlib.Omega.{arith}
+use borrow.Author.Tests.{leb-true, ltb-true, eqb-true, eqb-false, not-true, le-leb, lt-ltb, eq-eqb, ne-eqb}
+use lib.Dec.{leb, ltb, eqb}
+use lib.ListN.{length}
+use Rattle.lists.specs.Lists.{has, at, Ascending}
+use Rattle.lists.specs.Below.{allBelow}
+use Rattle.lists.specs.Tests.{split, and-both, and-left, and-right}
+use Rattle.lists.specs.Loops.{allBelow-at, allBelow-by}
+use Rattle.network.specs.Limits.{maxBuses, maxDegree, maxNeed}
+use Rattle.network.specs.Layout.{rowAt, size, needs, starts, entries, links, head}
+use Rattle.network.specs.Rows.{last-read, room}
+use Rattle.network.specs.Holds.{within, same, complete, fairNeeds, neverFall, shortRows, tidy, tidyRow, tidyRows, soundRows, mirrored, holds, Complete, FairNeeds, Steps, TidyRow, SoundRows, Mirrored, Holds}
+
+pub within-facts : (a b x : ℕ) → within a b x ≡ true → (a ≤ x) × (x ≤ b)
+unfolding within
+within-facts a b x w = (leb-true a x (and-left (leb a x) (leb x b) w), leb-true x b (and-right (leb a x) (leb x b) w))
+
+pub within-test : (a b x : ℕ) → a ≤ x → x ≤ b → within a b x ≡ true
+unfolding within
+within-test a b x p q = and-both (leb a x) (leb x b) (le-leb a x p) (le-leb x b q)
+
+same-facts : (a b : Bool) → same a b ≡ true → a ≡ b
+same-facts true b w = sym w
+same-facts false b w = sym (not-true b w)
+
+same-test : (a b : Bool) → a ≡ b → same a b ≡ true
+same-test a true e = rw e
+same-test a false e = rw e
+
+-- ---- the entries
+
+module _ (h : ℕ) (t : List ℕ) where
+  pub complete-facts : complete h t ≡ true → Complete h t
+  unfolding complete
+  complete-facts w =
+      let n = within-facts 1 maxBuses (size t) (and-left (within 1 maxBuses (size t)) _ w) in
+      record {
+        least = n .0;
+        most = n .1;
+        whole = leb-true _ _ (and-right (within 1 maxBuses (size t)) _ w);
+      }
+
+  pub complete-test : Complete h t → complete h t ≡ true
+  unfolding complete
+  complete-test w =
+      and-both _ _ (within-test 1 maxBuses (size t) (w .least) (w .most)) (le-leb (entries h t) (length t) (w .whole))
+
+  -- as code tests it: the bus count was read into n and the last start into x
+  pub complete-read : {n x : ℕ} → n ≡ size t → x ≡ at t (h + n) → 1 ≤ n → n ≤ maxBuses → leb (h + n + 1 + x) (length t) ≡ complete h t
+  unfolding complete
+  complete-read {n} {x} e p a b =
+      let w : within 1 maxBuses (size t) ≡ true = within-test 1 maxBuses (size t) (omega arith) (omega arith) in
+      let q : h + n + 1 + x ≡ entries h t = omega (arith, last-read h t e p) in
+      rw (w, q)
+
+-- ---- the needs
+
+module _ (q : List ℕ) where
+  pub fair-facts : fairNeeds q ≡ true → FairNeeds q
+  unfolding fairNeeds
+  fair-facts w i b = within-facts 1 maxNeed (at q i) (allBelow-at _ (length q) w b)
+
+  pub fair-test : FairNeeds q → fairNeeds q ≡ true
+  unfolding fairNeeds
+  fair-test f = allBelow-by _ (length q) (λ i b. within-test 1 maxNeed (at q i) (f i b .0) (f i b .1))
+
+-- ---- the rows
+
+module _ (n i : ℕ) (r : List ℕ) where
+  at-tidy : tidyRow n i r ≡ true → (k : ℕ) → k < length r → tidy n i r k ≡ true
+  unfolding tidyRow
+  at-tidy w k b = allBelow-at (tidy n i r) (length r) w b
+
+  pub tidy-facts : tidyRow n i r ≡ true → TidyRow n i r
+  unfolding tidy
+  tidy-facts w =
+      record {
+        below = λ k b. ltb-true _ _ (and-left (ltb (at r k) n) _ (and-left (ltb (at r k) n && not (eqb (at r k) i)) _ (at-tidy w k b)));
+        others = λ k b. eqb-false (at r k) i (not-true _ (and-right (ltb (at r k) n) _ (and-left (ltb (at r k) n && not (eqb (at r k) i)) _ (at-tidy w k b))));
+        ascends = λ j k g b. ltb-true _ _ (allBelow-at (λ j. ltb (at r j) (at r k)) k (and-right (ltb (at r k) n && not (eqb (at r k) i)) _ (at-tidy w k b)) g);
+      }
+
+  pub tidy-test : TidyRow n i r → tidyRow n i r ≡ true
+  unfolding tidyRow tidy
+  tidy-test w =
+      allBelow-by (tidy n i r) (length r) λ k b.
+      and-both _ _ (and-both _ _ (lt-ltb (at r k) n (w .below k b)) (ap not (ne-eqb (at r k) i (w .others k b))))
+      (allBelow-by _ k (λ j g. lt-ltb (at r j) (at r k) (w .ascends j k g b)))
+
+module _ (n : ℕ) (s : List ℕ) where
+  pub steps-facts : (neverFall n s && shortRows n s) ≡ true → Steps n s
+  unfolding neverFall shortRows
+  steps-facts w i b = (
+    leb-true _ _ (allBelow-at (λ i. leb (at s i) (at s (i + 1))) n (and-left (neverFall n s) (shortRows n s) w) b),
+    leb-true _ _ (allBelow-at (λ i. leb (at s (i + 1)) (at s i + maxDegree)) n (and-right (neverFall n s) (shortRows n s) w) b),
+  )
+
+  pub steps-test : Steps n s → (neverFall n s && shortRows n s) ≡ true
+  unfolding neverFall shortRows
+  steps-test f =
+      and-both _ _ (allBelow-by _ n (λ i b. le-leb (at s i) (at s (i + 1)) (f i b .0)))
+      (allBelow-by _ n (λ i b. le-leb (at s (i + 1)) (at s i + maxDegree) (f i b .1)))
+
+module _ (n : ℕ) (s l : List ℕ) where
+  pub rows-facts : n < length s → at s n ≤ length l → soundRows n s l ≡ true → SoundRows n s l
+  unfolding soundRows tidyRows
+  rows-facts g e w =
+      let w2 = and-left (eqb (at s 0) 0 && neverFall n s && shortRows n s) _ w in
+      let w1 = and-left (eqb (at s 0) 0 && neverFall n s) _ w2 in
+      record {
+        spans = record {
+          long = g;
+          ends = e;
+          steps = steps-facts n s (and-both _ _ (and-right (eqb (at s 0) 0) _ w1) (and-right (eqb (at s 0) 0 && neverFall n s) _ w2));
+        };
+        first = eqb-true _ _ (and-left (eqb (at s 0) 0) _ w1);
+        tidy = λ i b. tidy-facts n i (rowAt s l i) (allBelow-at _ n (and-right (eqb (at s 0) 0 && neverFall n s && shortRows n s) _ w) b);
+      }
+
+  pub rows-test : SoundRows n s l → soundRows n s l ≡ true
+  unfolding soundRows tidyRows
+  rows-test w =
+      let p = steps-test n s (w .spans .steps) in
+      rw (eq-eqb (at s 0) 0 (w .first), and-left (neverFall n s) (shortRows n s) p, and-right (neverFall n s) (shortRows n s) p)
+      (allBelow-by _ n (λ i b. tidy-test n i (rowAt s l i) (w .tidy i b)))
+
+  -- as code tests it: the first start was read into x, and b is the test of the rows
+  pub rows-read : {x : ℕ} {b : Bool} → x ≡ at s 0 → x ≡ 0 → (neverFall n s && shortRows n s) ≡ true → b ≡ tidyRows n s l → b ≡ soundRows n s l
+  unfolding soundRows
+  rows-read e z p d =
+      rw (eq-eqb (at s 0) 0 (sym e ∙ z), and-left (neverFall n s) (shortRows n s) p, and-right (neverFall n s) (shortRows n s) p) d
+
+  pub mirrored-facts : mirrored n s l ≡ true → Mirrored n s l
+  unfolding mirrored
+  mirrored-facts w i j b c =
+      same-facts _ _
+      (allBelow-at (λ j. same (has j (rowAt s l i)) (has i (rowAt s l j))) n
+      (allBelow-at (λ i. allBelow n (λ j. same (has j (rowAt s l i)) (has i (rowAt s l j)))) n w b) c)
+
+  pub mirrored-test : Mirrored n s l → mirrored n s l ≡ true
+  unfolding mirrored
+  mirrored-test f = allBelow-by _ n (λ i b. allBelow-by _ n (λ j c. same-test _ _ (f i j b c)))
+
+-- ---- a network
+
+module _ (t : List ℕ) where
+  pub holds-facts : holds t ≡ true → Holds t
+  unfolding holds
+  holds-facts w =
+      let s = starts (head t) t in
+      let l = links (head t) t in
+      let w2 = and-left (complete (head t) t && fairNeeds (needs t) && soundRows (size t) s l) _ w in
+      let w1 = and-left (complete (head t) t && fairNeeds (needs t)) _ w2 in
+      let c = complete-facts (head t) t (and-left (complete (head t) t) _ w1) in
+      let g = room (head t) t c in
+      record {
+        complete = c;
+        fair = fair-facts (needs t) (and-right (complete (head t) t) _ w1);
+        rows = rows-facts (size t) s l (g .0) (g .1) (and-right (complete (head t) t && fairNeeds (needs t)) _ w2);
+        mirrored = mirrored-facts (size t) s l (and-right (complete (head t) t && fairNeeds (needs t) && soundRows (size t) s l) _ w);
+      }
+
+  pub holds-test : Holds t → holds t ≡ true
+  unfolding holds
+  holds-test w =
+      let s = starts (head t) t in
+      let l = links (head t) t in
+      rw (complete-test (head t) t (w .complete), fair-test (needs t) (w .fair), rows-test (size t) s l (w .rows))
+      (mirrored-test (size t) s l (w .mirrored))
+
+  -- as code tests it: the row starts begin at h and the needs are q, and b is the test of the rows
+  pub holds-read : {h : ℕ} {q : List ℕ} {b : Bool} → h ≡ head t → q ≡ needs t → complete h t ≡ true → fairNeeds q ≡ true
+      → b ≡ (soundRows (size t) (starts h t) (links h t) && mirrored (size t) (starts h t) (links h t)) → b ≡ holds t
+  unfolding holds
+  holds-read eh eq c f r = rw (rw eh at c, rw eq at f) (rw eh at r)

@@ -1,0 +1,102 @@
+-- What makes a slice hold a network: 01's paragraph, clause by clause, as tests that compute and as facts. `Facts` shows them equivalent.
+-- Definitions only. Assumes nothing.
+use mathlib.Core.Bool.{Bool, true, false, not, _&&_}
+use mathlib.Core.List.{List}
+use mathlib.Core.Path.{_≡_}
+use Prim.Native.Nat.{ℕ, _+_, _≤_, _<_}
+use lib.Dec.{leb, ltb, eqb}
+use lib.ListN.{length}
+use Rattle.lists.specs.Lists.{has, at, Ascending}
+use Rattle.lists.specs.Below.{allBelow}
+use Rattle.network.specs.Limits.{maxBuses, maxDegree, maxNeed}
+use Rattle.network.specs.Layout.{rowAt, size, needs, starts, last, entries, links, head}
+
+-- x is from a to b
+unfoldable pub within : ℕ → ℕ → ℕ → Bool
+within a b x = leb a x && leb x b
+
+-- two tests agree
+abbrev pub same : Bool → Bool → Bool
+same true b = b
+same false b = not b
+
+-- ---- tests
+
+-- n is from 1 to 512, and the slice is as long as its table
+unfoldable pub complete : ℕ → List ℕ → Bool
+complete h t = within 1 maxBuses (size t) && leb (entries h t) (length t)
+
+-- needs are from 1 to 24
+unfoldable pub fairNeeds : List ℕ → Bool
+fairNeeds q = allBelow (length q) (λ i. within 1 maxNeed (at q i))
+
+-- starts never fall
+unfoldable pub neverFall : ℕ → List ℕ → Bool
+neverFall n s = allBelow n (λ i. leb (at s i) (at s (i + 1)))
+
+-- rows are of at most 23
+unfoldable pub shortRows : ℕ → List ℕ → Bool
+shortRows n s = allBelow n (λ i. leb (at s (i + 1)) (at s i + maxDegree))
+
+-- entry k of row i is below n, is not the row's own bus, and is above the entries before it
+unfoldable pub tidy : ℕ → ℕ → List ℕ → ℕ → Bool
+tidy n i r k = ltb (at r k) n && not (eqb (at r k) i) && allBelow k (λ j. ltb (at r j) (at r k))
+
+unfoldable pub tidyRow : ℕ → ℕ → List ℕ → Bool
+tidyRow n i r = allBelow (length r) (tidy n i r)
+
+unfoldable pub tidyRows : ℕ → List ℕ → List ℕ → Bool
+tidyRows n s l = allBelow n (λ i. tidyRow n i (rowAt s l i))
+
+-- the first start is 0; starts never fall; rows are of at most 23, and tidy
+unfoldable pub soundRows : ℕ → List ℕ → List ℕ → Bool
+soundRows n s l = eqb (at s 0) 0 && neverFall n s && shortRows n s && tidyRows n s l
+
+-- j is in row i exactly if i is in row j
+unfoldable pub mirrored : ℕ → List ℕ → List ℕ → Bool
+mirrored n s l = allBelow n (λ i. allBelow n (λ j. same (has j (rowAt s l i)) (has i (rowAt s l j))))
+
+-- a slice holds a network
+unfoldable pub holds : List ℕ → Bool
+holds t =
+    complete (head t) t && fairNeeds (needs t) && soundRows (size t) (starts (head t) t) (links (head t) t)
+    && mirrored (size t) (starts (head t) t) (links (head t) t)
+
+-- ---- the same as facts
+
+pub record Complete (h : ℕ) (t : List ℕ) : Type 0 where
+  pub least : 1 ≤ size t
+  pub most : size t ≤ maxBuses
+  pub whole : entries h t ≤ length t
+
+abbrev pub FairNeeds : List ℕ → Type 0
+FairNeeds q = (i : ℕ) → i < length q → (1 ≤ at q i) × (at q i ≤ maxNeed)
+
+-- each row ends no earlier than it starts, and at most 23 later
+abbrev pub Steps : ℕ → List ℕ → Type 0
+Steps n s = (i : ℕ) → i < n → (at s i ≤ at s (i + 1)) × (at s (i + 1) ≤ at s i + maxDegree)
+
+-- and the n rows lie among the numbers l
+pub record Spans (n : ℕ) (s l : List ℕ) : Type 0 where
+  pub long : n < length s
+  pub ends : at s n ≤ length l
+  pub steps : Steps n s
+
+pub record TidyRow (n i : ℕ) (r : List ℕ) : Type 0 where
+  pub below : (k : ℕ) → k < length r → at r k < n
+  pub others : (k : ℕ) → k < length r → at r k ≡ i → ⊥
+  pub ascends : Ascending r
+
+pub record SoundRows (n : ℕ) (s l : List ℕ) : Type 0 where
+  pub spans : Spans n s l
+  pub first : at s 0 ≡ 0
+  pub tidy : (i : ℕ) → i < n → TidyRow n i (rowAt s l i)
+
+abbrev pub Mirrored : ℕ → List ℕ → List ℕ → Type 0
+Mirrored n s l = (i j : ℕ) → i < n → j < n → has j (rowAt s l i) ≡ has i (rowAt s l j)
+
+pub record Holds (t : List ℕ) : Type 0 where
+  pub complete : Complete (head t) t
+  pub fair : FairNeeds (needs t)
+  pub rows : SoundRows (size t) (starts (head t) t) (links (head t) t)
+  pub mirrored : Mirrored (size t) (starts (head t) t) (links (head t) t)

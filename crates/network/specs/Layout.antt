@@ -1,0 +1,57 @@
+-- Where a line table has what: the bus count, the needs, the row starts, the neighbour numbers. Row starts begin at h, so that a section
+-- between needs and row starts moves one definition.
+-- Definitions only. Assumes nothing.
+use mathlib.Core.List.{List}
+use Prim.Native.Nat.{ℕ, _+_}
+use lib.ListN.{length}
+use Rattle.lists.specs.Lists.{has, at, part}
+use Rattle.lists.specs.Below.{sumBelow, countBelow}
+
+-- ---- rows that start at s among the neighbour numbers l, whatever table they stand in
+
+-- row i runs from start i up to, not including, start i + 1
+unfoldable pub rowAt : List ℕ → List ℕ → ℕ → List ℕ
+rowAt s l i = part (at s i) (at s (i + 1)) l
+
+-- ---- a table whose row starts begin at h
+
+-- n, the bus count
+abbrev pub size : List ℕ → ℕ
+size t = at t 0
+
+-- n needs
+unfoldable pub needs : List ℕ → List ℕ
+needs t = part 1 (1 + size t) t
+
+-- n + 1 row starts
+unfoldable pub starts : ℕ → List ℕ → List ℕ
+starts h t = part h (h + size t + 1) t
+
+-- the last row start, which says how many neighbour numbers there are
+abbrev pub last : ℕ → List ℕ → ℕ
+last h t = at t (h + size t)
+
+-- how many entries the table has
+abbrev pub entries : ℕ → List ℕ → ℕ
+entries h t = h + size t + 1 + last h t
+
+-- the neighbour numbers
+unfoldable pub links : ℕ → List ℕ → List ℕ
+links h t = part (h + size t + 1) (entries h t) t
+
+-- ---- a network's table
+
+-- its row starts begin behind the needs
+abbrev pub head : List ℕ → ℕ
+head t = 1 + size t
+
+-- the neighbours of bus i
+unfoldable pub row : List ℕ → ℕ → List ℕ
+row t i = rowAt (starts (head t) t) (links (head t) t) i
+
+abbrev pub degree : List ℕ → ℕ → ℕ
+degree t i = length (row t i)
+
+-- m, the number of lines: of the pairs of buses, each of which the other's row lists, counted at the higher bus
+unfoldable pub lines : List ℕ → ℕ
+lines t = sumBelow (size t) (λ i. countBelow i (λ j. has j (row t i)))

@@ -1,0 +1,9 @@
+pub mod Limits
+pub mod Layout
+pub mod Holds
+pub mod Answers
+pub mod Cursors
+pub mod Facts
+pub mod Rows
+pub mod Lines
+pub mod Calls

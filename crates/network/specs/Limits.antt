@@ -1,0 +1,28 @@
+-- The limits of a network, for contracts to cite. The code states 512, 23 and 24 as constants of `Network`; that it has the same ones is
+-- proved (`Network::limits`, and each test of a table).
+-- Definitions only. Assumes nothing.
+use Prim.Native.Nat.{ℕ, _+_, _*_, _/_}
+
+-- buses of a network
+abbrev pub maxBuses : ℕ
+maxBuses = 512
+
+-- lines at a bus
+abbrev pub maxDegree : ℕ
+maxDegree = 23
+
+-- need of a bus
+abbrev pub maxNeed : ℕ
+maxNeed = 24
+
+-- lines of a network: each stands at two buses
+abbrev pub maxLines : ℕ
+maxLines = maxBuses * maxDegree / 2
+
+-- entries of a line table: the bus count, the needs, the row starts, two neighbour numbers for each line
+abbrev pub maxEntries : ℕ
+maxEntries = 1 + maxBuses + (maxBuses + 1) + 2 * maxLines
+
+-- bytes of a network file: two counts of two bytes, a byte for each need, a record of four for each line
+abbrev pub maxBytes : ℕ
+maxBytes = 2 + maxBuses + 2 + 4 * maxLines

@@ -1,0 +1,55 @@
+-- How many lines a network has: half as many as neighbour numbers, and no more than the limit. Assumes nothing.
+use mathlib.Core.List.{List}
+use mathlib.Core.Path.{_≡_, refl, sym, ap, _∙_}
+use Prim.Native.Nat.{ℕ, zero, suc, _+_, _*_, _-_, _/_, _≤_, _<_}
+use native.Mathlib.Numerals.{add-one}
+use native.Mathlib.Omega.{arith}
+use lib.ListN.{length}
+use Rattle.lists.specs.Lists.{tally, _∈_, has, at}
+use Rattle.lists.specs.Below.{sumBelow, countBelow}
+use Rattle.lists.specs.Tests.{fails}
+use Rattle.lists.specs.Counts.{has-in}
+use Rattle.lists.specs.Range.{sumBelow-same, sumBelow-mirror, length-members}
+use Rattle.network.specs.Limits.{maxBuses, maxDegree, maxLines, maxEntries}
+use Rattle.network.specs.Layout.{rowAt, size, starts, last, entries, links, head, row, lines}
+use Rattle.network.specs.Holds.{SoundRows, Mirrored, Holds}
+use Rattle.network.specs.Rows.{row-length, tidy-once, tidy-below, tidy-others, last-start, length-links}
+
+module _ (n : ℕ) (s l : List ℕ) (w : SoundRows n s l) where
+  -- a row starts where the rows before it end
+  start-sum : (i : ℕ) → i ≤ n → at s i ≡ sumBelow i (λ a. length (rowAt s l a))
+  unfolding sumBelow
+  start-sum zero b = w .first
+  start-sum (suc i) b =
+      omega
+      (arith, start-sum i (omega arith), row-length n s l (w .spans) i (omega arith), w .spans .steps i (omega arith), ap (at s) (add-one i))
+
+  start-few : (i : ℕ) → i ≤ n → at s i ≤ i * maxDegree
+  start-few zero b = omega (arith, w .first)
+  start-few (suc i) b = omega (arith, start-few i (omega arith), w .spans .steps i (omega arith), ap (at s) (add-one i))
+
+  -- mirrored rows have two numbers for each pair of neighbours
+  pub paired : Mirrored n s l → at s n ≡ 2 * sumBelow n (λ i. countBelow i (λ j. has j (rowAt s l i)))
+  paired m =
+      start-sum n (omega arith)
+      ∙ sumBelow-same _ _ n (λ i b. length-members n (rowAt s l i) (tidy-once (w .tidy i b)) (tidy-below (w .tidy i b)))
+      ∙ sumBelow-mirror (λ i j. tally (has j (rowAt s l i))) n (λ i j b c. ap tally (m i j b c))
+      (λ i b. ap tally (fails _ (λ e. tidy-others (w .tidy i b) (has-in i (rowAt s l i) e))))
+
+module _ (t : List ℕ) (w : Holds t) where
+  -- the number of neighbour numbers is even, and m is half of it
+  pub two-for-each : last (head t) t ≡ 2 * lines t
+  unfolding lines row
+  two-for-each = sym (last-start (head t) t (w .complete)) ∙ paired _ _ _ (w .rows) (w .mirrored)
+
+  pub half : length (links (head t) t) / 2 ≡ lines t
+  half = omega (arith, length-links (head t) t (w .complete), two-for-each)
+
+  last-few : last (head t) t ≤ size t * maxDegree
+  last-few = omega (arith, last-start (head t) t (w .complete), start-few _ _ _ (w .rows) (size t) (omega arith))
+
+  pub lines-few : lines t ≤ maxLines
+  lines-few = omega (arith, two-for-each, last-few, w .complete .most)
+
+  pub entries-few : entries (head t) t ≤ maxEntries
+  entries-few = omega (arith, last-few, w .complete .most)

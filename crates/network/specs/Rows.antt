@@ -1,0 +1,71 @@
+-- Laws of rows and of the sections of a table. Assumes nothing.
+use mathlib.Core.Bool.{true}
+use mathlib.Core.List.{List}
+use mathlib.Core.Path.{_≡_, refl, sym, ap, _∙_}
+use Prim.Native.Nat.{ℕ, _+_, _-_, _≤_, _<_}
+use native.Mathlib.Nat.{le-refl, le-trans}
+use native.Mathlib.Numerals.{add-one}
+use native.Mathlib.Decide.{le-ind}
+use native.Mathlib.Omega.{arith}
+use lib.ListN.{length}
+use Rattle.lists.specs.Lists.{_∈_, has, at, part, Once}
+use Rattle.lists.specs.Places.{length-part, at-part, ascending-once, at-in}
+use Rattle.network.specs.Limits.{maxDegree}
+use Rattle.network.specs.Layout.{rowAt, size, needs, starts, last, entries, links, head, row}
+use Rattle.network.specs.Holds.{Complete, Spans, TidyRow, SoundRows, Holds}
+
+-- ---- rows that lie among the numbers l
+
+module _ (n : ℕ) (s l : List ℕ) (w : Spans n s l) where
+  rises : (i j : ℕ) → i ≤ j → j ≤ n → at s i ≤ at s j
+  rises i j =
+      le-ind (λ m. m ≤ n → at s i ≤ at s m) (λ _. le-refl _)
+      (λ m g f l. le-trans (f (omega arith)) (rw add-one at (w .steps m l .0))) j
+
+  -- a row lies among the numbers
+  pub row-lies : (i : ℕ) → i < n → (i + 1 < length s) × (at s i ≤ at s (i + 1)) × (at s (i + 1) ≤ length l)
+  row-lies i b = (omega (arith, w .long), w .steps i b .0, le-trans (rises (i + 1) n (omega arith) (le-refl n)) (w .ends))
+
+  pub row-length : (i : ℕ) → i < n → length (rowAt s l i) ≡ at s (i + 1) - at s i
+  unfolding rowAt
+  row-length i b = length-part (at s i) (at s (i + 1)) l (row-lies i b .2)
+
+  pub row-few : (i : ℕ) → i < n → length (rowAt s l i) ≤ maxDegree
+  row-few i b = omega (arith, row-length i b, w .steps i b .1)
+
+-- the numbers of a tidy row: each once, below n, not i
+module _ {n i : ℕ} {r : List ℕ} (w : TidyRow n i r) where
+  pub tidy-once : Once r
+  tidy-once = ascending-once r (w .ascends)
+
+  pub tidy-below : (x : ℕ) → x ∈ r → x < n
+  tidy-below x m = let k = at-in x r m in omega (arith, w .below (k .0) (k .1), k .2)
+
+  pub tidy-others : i ∈ r → ⊥
+  tidy-others m = let k = at-in i r m in w .others (k .0) (k .1) (k .2)
+
+-- ---- the sections of a table
+
+-- the last row start, as code reads it
+pub last-read : (h : ℕ) (t : List ℕ) {n x : ℕ} → n ≡ size t → x ≡ at t (h + n) → x ≡ last h t
+last-read h t e p = p ∙ ap (λ m. at t (h + m)) e
+
+module _ (h : ℕ) (t : List ℕ) (w : Complete h t) where
+  pub length-needs : 1 + size t ≤ h → length (needs t) ≡ size t
+  unfolding needs
+  length-needs b = let a = length-part 1 (1 + size t) t (omega (arith, w .whole)) in omega arith
+
+  pub length-starts : length (starts h t) ≡ size t + 1
+  unfolding starts
+  length-starts = let a = length-part h (h + size t + 1) t (omega (arith, w .whole)) in omega arith
+
+  pub length-links : length (links h t) ≡ last h t
+  unfolding links
+  length-links = let a = length-part (h + size t + 1) (entries h t) t (w .whole) in omega arith
+
+  pub last-start : at (starts h t) (size t) ≡ last h t
+  unfolding starts
+  last-start = at-part h (h + size t + 1) t (size t) (omega arith)
+
+  pub room : (size t < length (starts h t)) × (at (starts h t) (size t) ≤ length (links h t))
+  room = (omega (arith, length-starts), omega (arith, last-start, length-links))
