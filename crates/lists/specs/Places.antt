@@ -6,7 +6,7 @@ use Prim.Native.Nat.{ℕ, zero, suc, _+_, _-_, _≤_, _<_}
 use native.Mathlib.Nat.{zero-lt-suc}
 use native.Mathlib.Omega.{arith}
 use lib.Dec.{eqb, ltb, leb}
-use lib.ListN.{length, set, replicate, take, drop, length-take, length-drop}
+use lib.ListN.{length, set, replicate, take, drop, length-take, length-drop, List·getD-append}
 use lib.Seq.{getD-set-same, getD-set-other, getD-take, getD-drop, take-append-le, drop-append-le}
 use borrow.Author.Tests.{eqb-true, eqb-false, ltb-true, ltb-false, leb-true, leb-false, lt-ltb, le-ltb, ne-eqb}
 use Rattle.lists.specs.Lists.{tally, countBy, count, _∈_, has, Once, at, part, Ascending}
@@ -31,6 +31,10 @@ at-set l i x k h =
 pub at-take : (n : ℕ) (l : List ℕ) (k : ℕ) → k < n → at (take n l) k ≡ at l k
 unfolding at
 at-take n l k h = getD-take n l k 0 h
+
+pub at-append : (l m : List ℕ) (k : ℕ) → k < length l → at (l ++ m) k ≡ at l k
+unfolding at
+at-append l m k h = List·getD-append l m 0 k h
 
 -- ---- parts
 

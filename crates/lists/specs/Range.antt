@@ -78,12 +78,13 @@ pub sumBelow-mirror : (f : ℕ → ℕ → ℕ) (n : ℕ) → ((i j : ℕ) → i
 unfolding sumBelow
 sumBelow-mirror f zero h d = refl
 sumBelow-mirror f (suc n) h d =
-    omega
-    (arith,
+    omega (
+      arith,
       sumBelow-add (λ i. sumBelow n (f i)) (λ i. f i n) n,
       sumBelow-same (λ i. f i n) (f n) n (λ i l. h i n (omega arith) (omega arith)),
       sumBelow-mirror f n (λ i j a b. h i j (omega arith) (omega arith)) (λ i a. d i (omega arith)),
-      d n (omega arith))
+      d n (omega arith),
+    )
 
 -- a list without repeats is as long as it has members
 pub length-members : (n : ℕ) (l : List ℕ) → Once l → ((x : ℕ) → x ∈ l → x < n) → length l ≡ countBelow n (λ x. has x l)

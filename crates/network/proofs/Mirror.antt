@@ -1,7 +1,7 @@
 -- The mirror test. When row i is reached, the cursor of each row of a mirrored table counts the row's numbers below i, and so stands at i if
 -- the row has i: rows ascend.
 -- Assumes nothing.
-use mathlib.Core.Bool.{Bool, true, false, cond, true≢false}
+use mathlib.Core.Bool.{true, false}
 use mathlib.Core.List.{List}
 use mathlib.Core.Path.{_≡_, refl, sym, ap, ap₂, subst, _∙_}
 use Prim.Native.Nat.{ℕ, _+_, _≤_, _<_}
@@ -9,7 +9,7 @@ use native.Mathlib.Nat.{add-zero}
 use native.Mathlib.Omega.{arith}
 use borrow.Author.Tests.{ltb-true, eqb-true, le-ltb, lt-ltb, eq-eqb}
 use lib.Dec.{ltb, eqb}
-use lib.ListN.{length, getD, take, set, replicate, length-set, length-take}
+use lib.ListN.{length, take, set, replicate, length-set, length-take}
 use lib.Seq.{take-all}
 use Rattle.lists.specs.Lists.{tally, countBy, count, _∈_, has, at}
 use Rattle.lists.specs.Below.{allBelow}
@@ -18,11 +18,10 @@ use Rattle.lists.specs.Sums.{sumBy-cong, sumBy-zero}
 use Rattle.lists.specs.Counts.{in-has, has-in, has-none}
 use Rattle.lists.specs.Places.{at-zeros, at-set, at-take, in-at, at-in, count-none, count-under-next, ascending-place}
 use Rattle.lists.specs.Loops.{sumBy-take-next, allBelow-at, allBelow-by}
-use Rattle.network.specs.Limits.{maxDegree}
 use Rattle.network.specs.Layout.{rowAt}
-use Rattle.network.specs.Holds.{Spans, TidyRow, SoundRows, Mirrored}
+use Rattle.network.specs.Holds.{TidyRow, SoundRows, Mirrored}
 use Rattle.network.specs.Cursors.{isAt, Matched}
-use Rattle.network.specs.Rows.{row-few, tidy-once, tidy-below}
+use Rattle.network.specs.Rows.{tidy-once}
 
 -- ---- one row: the cursors of the rows that its first k entries name have moved on by one, from x to y
 

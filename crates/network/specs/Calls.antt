@@ -1,11 +1,10 @@
 -- How a call on a bus of a table comes out, whatever values it gives. Assumes nothing.
-use mathlib.Core.Bool.{true, false, not}
+use mathlib.Core.Bool.{true, false}
 use mathlib.Core.List.{List}
 use mathlib.Core.Path.{_≡_}
 use Prim.Native.Nat.{ℕ, _≤_, _<_}
 use native.Mathlib.Omega.{arith}
 use borrow.Author.Tests.{le-ltb, lt-ltb}
-use lib.Dec.{ltb}
 use Rattle.refusals.specs.Outcomes.{gives, refuses, outcome}
 use Rattle.network.specs.Layout.{size}
 use Rattle.network.specs.Holds.{holds}

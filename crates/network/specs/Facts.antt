@@ -2,15 +2,15 @@
 -- Assumes nothing.
 use mathlib.Core.Bool.{Bool, true, false, not, _&&_}
 use mathlib.Core.List.{List}
-use mathlib.Core.Path.{_≡_, refl, sym, ap, _∙_}
+use mathlib.Core.Path.{_≡_, sym, ap, _∙_}
 use Prim.Native.Nat.{ℕ, _+_, _≤_, _<_}
 use native.Mathlib.Omega.{arith}
 use borrow.Author.Tests.{leb-true, ltb-true, eqb-true, eqb-false, not-true, le-leb, lt-ltb, eq-eqb, ne-eqb}
 use lib.Dec.{leb, ltb, eqb}
 use lib.ListN.{length}
-use Rattle.lists.specs.Lists.{has, at, Ascending}
+use Rattle.lists.specs.Lists.{has, at}
 use Rattle.lists.specs.Below.{allBelow}
-use Rattle.lists.specs.Tests.{split, and-both, and-left, and-right}
+use Rattle.lists.specs.Tests.{and-both, and-left, and-right}
 use Rattle.lists.specs.Loops.{allBelow-at, allBelow-by}
 use Rattle.network.specs.Limits.{maxBuses, maxDegree, maxNeed}
 use Rattle.network.specs.Layout.{rowAt, size, needs, starts, entries, links, head}

@@ -9,7 +9,7 @@ use lib.ListN.{length}
 use Rattle.lists.specs.Lists.{has, at, Ascending}
 use Rattle.lists.specs.Below.{allBelow}
 use Rattle.network.specs.Limits.{maxBuses, maxDegree, maxNeed}
-use Rattle.network.specs.Layout.{rowAt, size, needs, starts, last, entries, links, head}
+use Rattle.network.specs.Layout.{rowAt, size, needs, starts, entries, links, head}
 
 -- x is from a to b
 unfoldable pub within : ℕ → ℕ → ℕ → Bool

@@ -3,7 +3,9 @@ pub mod Layout
 pub mod Holds
 pub mod Answers
 pub mod Cursors
-pub mod Facts
+pub mod Examples
 pub mod Rows
-pub mod Lines
+pub mod Facts
 pub mod Calls
+pub mod Lines
+pub mod Beyond

@@ -1,17 +1,17 @@
 -- How many lines a network has: half as many as neighbour numbers, and no more than the limit. Assumes nothing.
 use mathlib.Core.List.{List}
-use mathlib.Core.Path.{_≡_, refl, sym, ap, _∙_}
-use Prim.Native.Nat.{ℕ, zero, suc, _+_, _*_, _-_, _/_, _≤_, _<_}
+use mathlib.Core.Path.{_≡_, sym, ap, _∙_}
+use Prim.Native.Nat.{ℕ, zero, suc, _*_, _/_, _≤_}
 use native.Mathlib.Numerals.{add-one}
 use native.Mathlib.Omega.{arith}
 use lib.ListN.{length}
-use Rattle.lists.specs.Lists.{tally, _∈_, has, at}
+use Rattle.lists.specs.Lists.{tally, has, at}
 use Rattle.lists.specs.Below.{sumBelow, countBelow}
 use Rattle.lists.specs.Tests.{fails}
 use Rattle.lists.specs.Counts.{has-in}
 use Rattle.lists.specs.Range.{sumBelow-same, sumBelow-mirror, length-members}
-use Rattle.network.specs.Limits.{maxBuses, maxDegree, maxLines, maxEntries}
-use Rattle.network.specs.Layout.{rowAt, size, starts, last, entries, links, head, row, lines}
+use Rattle.network.specs.Limits.{maxDegree, maxLines, maxEntries}
+use Rattle.network.specs.Layout.{rowAt, size, last, entries, links, head, row, lines}
 use Rattle.network.specs.Holds.{SoundRows, Mirrored, Holds}
 use Rattle.network.specs.Rows.{row-length, tidy-once, tidy-below, tidy-others, last-start, length-links}
 

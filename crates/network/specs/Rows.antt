@@ -1,18 +1,17 @@
 -- Laws of rows and of the sections of a table. Assumes nothing.
-use mathlib.Core.Bool.{true}
 use mathlib.Core.List.{List}
-use mathlib.Core.Path.{_≡_, refl, sym, ap, _∙_}
+use mathlib.Core.Path.{_≡_, ap, _∙_}
 use Prim.Native.Nat.{ℕ, _+_, _-_, _≤_, _<_}
 use native.Mathlib.Nat.{le-refl, le-trans}
 use native.Mathlib.Numerals.{add-one}
 use native.Mathlib.Decide.{le-ind}
 use native.Mathlib.Omega.{arith}
 use lib.ListN.{length}
-use Rattle.lists.specs.Lists.{_∈_, has, at, part, Once}
+use Rattle.lists.specs.Lists.{_∈_, at, Once}
 use Rattle.lists.specs.Places.{length-part, at-part, ascending-once, at-in}
 use Rattle.network.specs.Limits.{maxDegree}
-use Rattle.network.specs.Layout.{rowAt, size, needs, starts, last, entries, links, head, row}
-use Rattle.network.specs.Holds.{Complete, Spans, TidyRow, SoundRows, Holds}
+use Rattle.network.specs.Layout.{rowAt, size, needs, starts, last, entries, links}
+use Rattle.network.specs.Holds.{Complete, Spans, TidyRow}
 
 -- ---- rows that lie among the numbers l
 

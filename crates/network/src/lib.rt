@@ -9,7 +9,6 @@ ghost use Rattle.network.specs.Layout.{rowAt, size, needs, starts, links
 ghost use Rattle.network.specs.Holds.{complete, fairNeeds, neverFall, shortRows, tidyRow, tidyRows, soundRows, mirrored, holds, Complete, Spans, TidyRow, SoundRows, Holds};
 ghost use Rattle.network.specs.Answers.{degreeSays, degreeOutcome, rowOutcome};
 ghost use Rattle.network.specs.Cursors.{isAt, Matched};
-
 use refusals::Refusal;
 
 pub struct Network;

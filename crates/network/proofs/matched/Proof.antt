@@ -2,33 +2,25 @@
 use borrow.Author.Needs.{needs}
 use native.Mathlib.Omega.{arith}
 use mathlib.Core.Path.{_≡_, refl, sym, ap, _∙_}
-use Prim.Native.Nat.{ℕ, _+_, _-_, _≤_, _<_}
+use Prim.Native.Nat.{ℕ, _-_, _≤_, _<_}
 use lib.ListN.{length}
-use Rattle.lists.specs.Lists.{count, _∈_, at}
-use Rattle.lists.specs.Tests.{fails, passed, failed, and-both, and-fails-left, and-fails-right}
-use borrow.Author.Count.{below-more}
-use native.Mathlib.Nat.{not-suc-le-zero}
-use Rattle.network.specs.Limits.{maxBuses, maxDegree, maxNeed}
-use Rattle.network.specs.Facts.{fair-facts, fair-test, tidy-facts, tidy-test, steps-facts, steps-test, rows-facts, rows-test, complete-facts, complete-test, mirrored-facts, mirrored-test, holds-facts, holds-test}
-use Rattle.network.specs.Rows.{last-read, row-lies, row-few, room, tidy-once, length-starts, last-start}
-use Rattle.network.specs.Holds.{tidyRow, tidyRows, soundRows, Complete, TidyRow, Steps, Spans, Mirrored}
-use Rattle.network.specs.Layout.{rowAt, size, last, entries, links, starts, head}
-use mathlib.Core.Bool.{Bool, true, false}
+use Rattle.lists.specs.Lists.{at}
+use Rattle.lists.specs.Tests.{passed, failed}
+use Rattle.network.specs.Limits.{maxBuses, maxDegree}
+use Rattle.network.specs.Rows.{row-lies, row-few}
+use Rattle.network.specs.Holds.{TidyRow, Spans}
+use Rattle.network.specs.Layout.{rowAt}
+use mathlib.Core.Bool.{true}
 use mathlib.Core.List.{List}
-use Rattle.network.specs.Cursors.{isAt, Matched}
+use Rattle.network.specs.Cursors.{isAt}
 use Rattle.lists.specs.Below.{allBelow}
 use Rattle.lists.specs.Loops.{allBelow-start, allBelow-more, allBelow-fails, allBelow-done}
-use Rattle.network.proofs.Mirror.{Moved, none-moved, one-moved, unmoved, all-moved, is-there, Marks, none-marked, answered, all-answered, not-refused, marked}
+use Rattle.network.proofs.Mirror.{Moved, none-moved, one-moved, unmoved, all-moved, is-there}
 use mathlib.Core.Path.{ap₂}
 use mathlib.Core.Bool.{true≢false}
 use lib.ListN.{getD}
 use Rattle.network.proofs.matched.Statement.{statement}
 use Rattle.network.proofs.matched.Tie as tie
-use Rattle.network.proofs.matched.Reads as reads
-use Rattle.network.proofs.matched.Lts as lts
-use Rattle.network.proofs.entry.Reads as entry-reads
-use Rattle.network.proofs.is_at.Reads as is-at-reads
-use Rattle.network.proofs.line.Reads as line-reads
 
 -- entry k of row i is read into j
 module _ {n i : ℕ} {s l r : List ℕ} (h : Spans n s l × (n ≤ maxBuses) × TidyRow n i r) {k j : ℕ} (b : k < length r) (e : j ≡ at r k) where
@@ -48,69 +40,56 @@ Inv-loop s l n i r cursors₀ k₀ cursors k = (k ≤ length r) × (allBelow k (
 abbrev μ-loop : tie.MeasureT-loop
 μ-loop s l n i r cursors₀ k₀ cursors k = length r - k
 
--- src/lib.rt:170:5
 loop-holds : tie.Need-loop-holds Inv-loop μ-loop
 loop-holds c = (search needs, allBelow-start _, none-moved _ _)
 
--- src/lib.rt:171:13
 entry-requires : tie.Need-entry-requires Inv-loop μ-loop
 entry-requires c κs = search needs
 
--- src/lib.rt:172:17
 element-copy-out-c : tie.Need-element-copy-out-c Inv-loop μ-loop
 element-copy-out-c c = let z = low (c .before .before .before .before .before .before .pre .0) (c .before .loop-test .taken) (c .entry .ensures .0) in omega (arith, c .before .before .before .before .before .before .pre .0 .1)
 
--- src/lib.rt:173:19
 line-requires : tie.Need-line-requires Inv-loop μ-loop
 line-requires c κs = row-lies _ _ _ (c .before .before .before .before .before .before .before .pre .0 .0) _ (low (c .before .before .before .before .before .before .before .pre .0) (c .before .before .loop-test .taken) (c .before .entry .ensures .0))
 
--- src/lib.rt:173:13
 is-at-requires : tie.Need-is-at-requires Inv-loop μ-loop
 is-at-requires c κs = search needs
 
--- src/lib.rt:174:13
 returns : tie.Need-returns Inv-loop μ-loop
-returns c = 
+returns c =
     let b = c .before .before .before .before .before .loop-test .taken in
     let inv = c .before .before .before .before .before .before .loop .inv in
     let f = failed (c .before .is-at .ensures ∙ asked (c .before .before .before .before .before .before .before .before .before .before .pre .0) b (c .before .before .before .before .entry .ensures .0) (inv .2) (c .before .before .line .ensures)) (c .if1 .taken) in
     record { long = inv .2 .long; answer = sym (allBelow-fails _ _ _ b f); moved = λ w. absurd (true≢false (sym w)) }
 
--- src/lib.rt:176:22
 add-cursors : tie.Need-add-cursors Inv-loop μ-loop
-add-cursors c = 
+add-cursors c =
     let z = few (c .before .before .before .before .before .before .before .before .before .before .pre .0) (c .before .before .before .before .before .loop-test .taken) (c .before .before .before .before .entry .ensures .0) _ (c .before .before .line .ensures) (passed (c .before .is-at .ensures) (c .if1 .left)) in
     omega arith
 
--- src/lib.rt:176:9
 element-write-cursors : tie.Need-element-write-cursors Inv-loop μ-loop
 element-write-cursors c = let z = low (c .before .before .before .before .before .before .before .before .before .before .pre .0) (c .before .before .before .before .before .loop-test .taken) (c .before .before .before .before .entry .ensures .0) in omega (arith, c .before .before .before .before .before .before .before .before .before .before .pre .0 .1)
 
--- src/lib.rt:177:9
 add-k : tie.Need-add-k Inv-loop μ-loop
 add-k c = search needs
 
--- src/lib.rt:170:5
 loop-less : tie.Need-loop-less Inv-loop μ-loop
 loop-less c = search needs
 
--- src/lib.rt:170:5
 loop-again : tie.Need-loop-again Inv-loop μ-loop
 unfolding at
-loop-again c = 
+loop-again c =
     let p = c .before .before .before .before .before .before .before .before .before .before .pre in
     let b = c .before .before .before .before .before .loop-test .taken in
     let inv = c .before .before .before .before .before .before .loop .inv in
-    let e = c .before .before .before .before .entry .ensures .0 in
-    (
+    let e = c .before .before .before .before .entry .ensures .0 in (
       search needs,
       allBelow-more _ _ (inv .1) (passed (c .before .is-at .ensures ∙ asked (p .0) b e (inv .2) (c .before .before .line .ensures)) (c .if1 .left)),
       one-moved (inv .2) e b refl (let z = low (p .0) b e in omega (arith, p)),
     )
 
--- src/lib.rt:157:1
 returns-2 : tie.Need-returns-2 Inv-loop μ-loop
-returns-2 c = 
+returns-2 c =
     let inv = c .before .loop .inv in
     record {
       long = inv .2 .long;

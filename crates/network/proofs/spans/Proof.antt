@@ -1,23 +1,15 @@
 -- `network::spans` meets its contract. Assumes nothing.
 use borrow.Author.Needs.{needs}
 use native.Mathlib.Omega.{arith}
-use mathlib.Core.Path.{_≡_, refl, sym, ap, _∙_}
-use Prim.Native.Nat.{ℕ, _+_, _-_, _≤_, _<_}
-use lib.ListN.{length}
-use Rattle.lists.specs.Lists.{at}
-use Rattle.lists.specs.Tests.{fails, passed, failed, and-both, and-fails-left, and-fails-right}
+use mathlib.Core.Path.{sym}
+use Prim.Native.Nat.{_-_, _≤_}
+use Rattle.lists.specs.Tests.{fails}
 use borrow.Author.Count.{below-more}
 use native.Mathlib.Nat.{not-suc-le-zero}
-use Rattle.network.specs.Limits.{maxBuses, maxDegree, maxNeed}
-use Rattle.network.specs.Facts.{fair-facts, fair-test, tidy-facts, tidy-test, steps-facts, steps-test, rows-facts, rows-test, complete-facts, complete-test, mirrored-facts, mirrored-test, holds-facts, holds-test}
-use Rattle.network.specs.Rows.{row-lies, row-few, room, tidy-once, length-starts, last-start}
-use Rattle.network.specs.Holds.{tidyRow, tidyRows, soundRows, Complete, TidyRow, Steps, Spans}
-use Rattle.network.specs.Layout.{rowAt, size, last, entries, links, starts, head}
+use Rattle.network.specs.Facts.{steps-facts, steps-test}
+use Rattle.network.specs.Holds.{Steps}
 use Rattle.network.proofs.spans.Statement.{statement}
 use Rattle.network.proofs.spans.Tie as tie
-use Rattle.network.proofs.spans.Reads as reads
-use Rattle.network.proofs.spans.Lts as lts
-use Rattle.network.proofs.entry.Reads as entry-reads
 
 abbrev Inv-loop : tie.InvT-loop
 Inv-loop s n i₀ i = (i ≤ n) × Steps i s
@@ -25,47 +17,36 @@ Inv-loop s n i₀ i = (i ≤ n) × Steps i s
 abbrev μ-loop : tie.MeasureT-loop
 μ-loop s n i₀ i = n - i
 
--- src/lib.rt:69:5
 loop-holds : tie.Need-loop-holds Inv-loop μ-loop
 loop-holds c = (search needs, λ j b. absurd (not-suc-le-zero b))
 
--- src/lib.rt:70:13
 entry-requires : tie.Need-entry-requires Inv-loop μ-loop
 entry-requires c κs = search needs
 
--- src/lib.rt:71:26
 add-entry : tie.Need-add-entry Inv-loop μ-loop
 add-entry c = search needs
 
--- src/lib.rt:71:13
 entry-requires-2 : tie.Need-entry-requires-2 Inv-loop μ-loop
 entry-requires-2 c κs = search needs
 
--- src/lib.rt:73:13
 returns : tie.Need-returns Inv-loop μ-loop
 returns c = sym (fails _ (λ w. let z = steps-facts _ _ w _ (c .before .before .before .loop-test .taken) in omega arith))
 
--- src/lib.rt:75:12
 add-if2 : tie.Need-add-if2 Inv-loop μ-loop
 add-if2 c = search needs
 
--- src/lib.rt:76:13
 returns-2 : tie.Need-returns-2 Inv-loop μ-loop
 returns-2 c = sym (fails _ (λ w. let z = steps-facts _ _ w _ (c .before .before .before .before .loop-test .taken) in omega arith))
 
--- src/lib.rt:78:9
 add-i : tie.Need-add-i Inv-loop μ-loop
 add-i c = search needs
 
--- src/lib.rt:69:5
 loop-less : tie.Need-loop-less Inv-loop μ-loop
 loop-less c = search needs
 
--- src/lib.rt:69:5
 loop-again : tie.Need-loop-again Inv-loop μ-loop
 loop-again c = (search needs, below-more _ _ (c .before .before .before .before .before .loop .inv .1) (omega arith))
 
--- src/lib.rt:64:1
 returns-3 : tie.Need-returns-3 Inv-loop μ-loop
 returns-3 c = sym (steps-test _ _ (λ j b. c .before .loop .inv .1 j (omega arith)))
 

@@ -5,22 +5,15 @@ use mathlib.Core.Path.{_≡_, refl, sym, ap, _∙_}
 use Prim.Native.Nat.{ℕ, _+_, _-_, _≤_, _<_}
 use lib.ListN.{length}
 use Rattle.lists.specs.Lists.{at}
-use Rattle.lists.specs.Tests.{fails, passed, failed, and-both, and-fails-left, and-fails-right}
+use Rattle.lists.specs.Tests.{fails}
 use borrow.Author.Count.{below-more}
 use native.Mathlib.Nat.{not-suc-le-zero}
-use Rattle.network.specs.Limits.{maxBuses, maxDegree, maxNeed}
-use Rattle.network.specs.Facts.{fair-facts, fair-test, tidy-facts, tidy-test, steps-facts, steps-test, rows-facts, rows-test, complete-facts, complete-test, mirrored-facts, mirrored-test, holds-facts, holds-test}
-use Rattle.network.specs.Rows.{last-read, row-lies, row-few, room, tidy-once, length-starts, last-start}
-use Rattle.network.specs.Holds.{tidyRow, tidyRows, soundRows, Complete, TidyRow, Steps, Spans}
-use Rattle.network.specs.Layout.{rowAt, size, last, entries, links, starts, head}
-use mathlib.Core.Bool.{Bool, true, false}
+use Rattle.network.specs.Facts.{tidy-facts, tidy-test}
+use Rattle.network.specs.Holds.{TidyRow}
 use mathlib.Core.List.{List}
 use mathlib.Core.Logic.{_⊎_, inl, inr, ⊎-elim}
 use Rattle.network.proofs.tidy.Statement.{statement}
 use Rattle.network.proofs.tidy.Tie as tie
-use Rattle.network.proofs.tidy.Reads as reads
-use Rattle.network.proofs.tidy.Lts as lts
-use Rattle.network.proofs.entry.Reads as entry-reads
 
 -- after k entries: they are tidy and below `least`, which is 0 or next after one of them
 record Passed (n i : ℕ) (r : List ℕ) (k least : ℕ) : Type 0 where
@@ -58,43 +51,33 @@ Inv-loop r n i least₀ k₀ least k = (k ≤ length r) × Passed n i r k least
 abbrev μ-loop : tie.MeasureT-loop
 μ-loop r n i least₀ k₀ least k = length r - k
 
--- src/lib.rt:89:5
 loop-holds : tie.Need-loop-holds Inv-loop μ-loop
 loop-holds c = (search needs, none _ _ _)
 
--- src/lib.rt:90:13
 entry-requires : tie.Need-entry-requires Inv-loop μ-loop
 entry-requires c κs = search needs
 
--- src/lib.rt:92:13
 returns : tie.Need-returns Inv-loop μ-loop
 returns c = sym (fails _ (λ w. let z = tidy-facts _ _ _ w .below _ (c .before .before .loop-test .taken) in omega arith))
 
--- src/lib.rt:95:13
 returns-2 : tie.Need-returns-2 Inv-loop μ-loop
 returns-2 c = sym (fails _ (λ w. tidy-facts _ _ _ w .others _ (c .before .before .before .loop-test .taken) (omega arith)))
 
--- src/lib.rt:98:13
 returns-3 : tie.Need-returns-3 Inv-loop μ-loop
 returns-3 c = sym (fails _ (λ w. late (c .before .before .before .before .before .loop .inv .1) (c .before .before .before .entry .ensures .0) (c .before .before .before .before .loop-test .taken) (c .if3 .taken) (tidy-facts _ _ _ w)))
 
--- src/lib.rt:100:17
 add-least : tie.Need-add-least Inv-loop μ-loop
 add-least c = search needs
 
--- src/lib.rt:101:9
 add-k : tie.Need-add-k Inv-loop μ-loop
 add-k c = search needs
 
--- src/lib.rt:89:5
 loop-less : tie.Need-loop-less Inv-loop μ-loop
 loop-less c = search needs
 
--- src/lib.rt:89:5
 loop-again : tie.Need-loop-again Inv-loop μ-loop
 loop-again c = (search needs, more (c .before .before .before .before .before .loop .inv .1) (c .before .before .before .entry .ensures .0) (c .before .before .if1 .left) (c .before .if2 .left) (c .if3 .left))
 
--- src/lib.rt:84:1
 returns-4 : tie.Need-returns-4 Inv-loop μ-loop
 returns-4 c = sym (tidy-test _ _ _ (done (c .before .loop .inv .1) (c .loop-test .left)))
 

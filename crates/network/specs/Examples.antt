@@ -1,0 +1,101 @@
+-- Tables of 01, and tables that somebody might take for one, computed. Assumes nothing.
+use mathlib.Core.Bool.{true, false}
+use mathlib.Core.List.{List, [], _∷_, _++_, map}
+use mathlib.Core.Path.{_≡_, refl}
+use Prim.Native.Nat.{ℕ, suc, _+_}
+use lib.ListN.{replicate}
+use Rattle.refusals.specs.Outcomes.{gives, refuses}
+use Rattle.lists.specs.Lists.{at}
+use Rattle.lists.specs.Below.{allBelow, sumBelow, joinBelow, mapBelow}
+use Rattle.network.specs.Limits.{maxLines, maxEntries, maxBytes}
+use Rattle.network.specs.Layout.{rowAt, needs, starts, links, row, lines}
+use Rattle.network.specs.Holds.{within, complete, fairNeeds, neverFall, shortRows, tidy, tidyRow, tidyRows, soundRows, mirrored, holds}
+use Rattle.network.specs.Answers.{degreeOutcome, rowOutcome}
+
+most-lines : maxLines ≡ 5888
+most-lines = refl
+
+most-entries : maxEntries ≡ 12802
+most-entries = refl
+
+most-bytes : maxBytes ≡ 24068
+most-bytes = refl
+
+-- 01's Path: three buses in a row, needs 1
+path : List ℕ
+path = 3 ∷ 1 ∷ 1 ∷ 1 ∷ 0 ∷ 1 ∷ 3 ∷ 4 ∷ 1 ∷ 0 ∷ 2 ∷ 1 ∷ []
+
+-- one bus without lines, need 24; Path; Path with entries beyond
+networks : List (List ℕ)
+unfolding path
+networks = (1 ∷ 24 ∷ 0 ∷ 0 ∷ []) ∷ path ∷ (path ++ 9 ∷ 9 ∷ []) ∷ []
+
+networks-hold : map holds networks ≡ true ∷ true ∷ true ∷ []
+unfolding networks holds complete within fairNeeds soundRows neverFall shortRows tidyRows tidyRow tidy mirrored rowAt needs starts links row at allBelow
+networks-hold = refl
+
+-- Path with bus 2's row naming bus 0, which does not name bus 2
+one-sided : List ℕ
+one-sided = 3 ∷ 1 ∷ 1 ∷ 1 ∷ 0 ∷ 1 ∷ 3 ∷ 4 ∷ 1 ∷ 0 ∷ 2 ∷ 0 ∷ []
+
+others : List (List ℕ)
+unfolding one-sided
+others =
+    []
+    -- no bus; a bus count above 512
+    ∷ (0 ∷ 0 ∷ 0 ∷ [])
+    ∷ (513 ∷ [])
+    -- Path without its last entry
+    ∷ (3 ∷ 1 ∷ 1 ∷ 1 ∷ 0 ∷ 1 ∷ 3 ∷ 4 ∷ 1 ∷ 0 ∷ 2 ∷ [])
+    -- need 0; need 25
+    ∷ (1 ∷ 0 ∷ 0 ∷ 0 ∷ [])
+    ∷ (1 ∷ 25 ∷ 0 ∷ 0 ∷ [])
+    -- a first start of 1; a start that falls
+    ∷ (2 ∷ 1 ∷ 1 ∷ 1 ∷ 1 ∷ 1 ∷ 0 ∷ [])
+    ∷ (2 ∷ 1 ∷ 1 ∷ 0 ∷ 2 ∷ 0 ∷ [])
+    -- a neighbour that is no bus; a bus in its own row; a row that falls; a neighbour twice
+    ∷ (1 ∷ 1 ∷ 0 ∷ 1 ∷ 1 ∷ [])
+    ∷ (1 ∷ 1 ∷ 0 ∷ 1 ∷ 0 ∷ [])
+    ∷ (3 ∷ 1 ∷ 1 ∷ 1 ∷ 0 ∷ 1 ∷ 3 ∷ 4 ∷ 1 ∷ 2 ∷ 0 ∷ 1 ∷ [])
+    ∷ (2 ∷ 1 ∷ 1 ∷ 0 ∷ 2 ∷ 4 ∷ 1 ∷ 1 ∷ 0 ∷ 0 ∷ [])
+    ∷ one-sided
+    ∷ []
+
+others-do-not :
+    map holds others ≡ false ∷ false ∷ false ∷ false ∷ false ∷ false ∷ false ∷ false ∷ false ∷ false ∷ false ∷ false ∷ false ∷ []
+unfolding others holds complete within fairNeeds soundRows neverFall shortRows tidyRows tidyRow tidy mirrored rowAt needs starts links row at allBelow
+others-do-not = refl
+
+-- a bus with lines to n others: 23 are allowed, 24 are not
+star : ℕ → List ℕ
+star n = suc n ∷ replicate (suc n) 1 ++ (0 ∷ mapBelow (suc n) (λ i. n + i)) ++ mapBelow n suc ++ replicate n 0
+
+stars : (holds (star 23) ≡ true) × (holds (star 24) ≡ false)
+unfolding star mapBelow joinBelow holds complete within fairNeeds soundRows neverFall shortRows tidyRows tidyRow tidy mirrored rowAt needs starts links row at allBelow
+stars = (refl, refl)
+
+path-lines : lines path ≡ 2
+unfolding path lines sumBelow holds complete within fairNeeds soundRows neverFall shortRows tidyRows tidyRow tidy mirrored rowAt needs starts links row at allBelow
+path-lines = refl
+
+degrees : (degreeOutcome path 0 ∷ degreeOutcome path 1 ∷ degreeOutcome path 2 ∷ degreeOutcome path 3 ∷ []) ≡ gives 1 ∷ gives 2 ∷ gives 1 ∷ refuses 13 ∷ []
+unfolding path holds complete within fairNeeds soundRows neverFall shortRows tidyRows tidyRow tidy mirrored rowAt needs starts links row at allBelow
+degrees = refl
+
+rows : (rowOutcome path 0 ∷ rowOutcome path 1 ∷ rowOutcome path 2 ∷ rowOutcome path 3 ∷ []) ≡ (1 ∷ []) ∷ (0 ∷ 2 ∷ []) ∷ (1 ∷ []) ∷ [] ∷ []
+unfolding path holds complete within fairNeeds soundRows neverFall shortRows tidyRows tidyRow tidy mirrored rowAt needs starts links row at allBelow
+rows = refl
+
+-- an empty slice, and a table with one mirror missing: 11, before any word on the bus
+no-networks : (degreeOutcome [] 0 ∷ degreeOutcome one-sided 0 ∷ degreeOutcome one-sided 7 ∷ []) ≡ refuses 11 ∷ refuses 11 ∷ refuses 11 ∷ []
+unfolding one-sided holds complete within fairNeeds soundRows neverFall shortRows tidyRows tidyRow tidy mirrored rowAt needs starts links row at allBelow
+no-networks = refl
+
+no-rows : (rowOutcome [] 0 ∷ rowOutcome one-sided 0 ∷ []) ≡ [] ∷ [] ∷ []
+unfolding one-sided holds complete within fairNeeds soundRows neverFall shortRows tidyRows tidyRow tidy mirrored rowAt needs starts links row at allBelow
+no-rows = refl
+
+-- a longer tail
+same-answers : (degreeOutcome (path ++ 9 ∷ 9 ∷ []) 1 ≡ gives 2) × (rowOutcome (path ++ 9 ∷ 9 ∷ []) 1 ≡ 0 ∷ 2 ∷ [])
+unfolding path holds complete within fairNeeds soundRows neverFall shortRows tidyRows tidyRow tidy mirrored rowAt needs starts links row at allBelow
+same-answers = (refl, refl)
