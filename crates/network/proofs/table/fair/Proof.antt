@@ -1,0 +1,59 @@
+-- `network::table::fair` meets its contract. Assumes nothing.
+use borrow.Author.Needs.{needs}
+use native.Mathlib.Omega.{arith}
+use mathlib.Core.Path.{sym}
+use Prim.Native.Nat.{ℕ, _-_, _≤_, _<_}
+use lib.ListN.{length}
+use Rattle.lists.specs.Lists.{at}
+use Rattle.lists.specs.Tests.{fails}
+use borrow.Author.Count.{below-more}
+use native.Mathlib.Nat.{not-suc-le-zero}
+use Rattle.network.specs.Limits.{maxNeed}
+use Rattle.network.specs.Facts.{fair-facts, fair-test}
+use Rattle.network.proofs.table.fair.Statement.{statement}
+use Rattle.network.proofs.table.fair.Tie as tie
+
+abbrev Inv-loop : tie.InvT-loop
+Inv-loop q i₀ i = (i ≤ length q) × ((j : ℕ) → j < i → (1 ≤ at q j) × (at q j ≤ maxNeed))
+
+abbrev μ-loop : tie.MeasureT-loop
+μ-loop q i₀ i = length q - i
+
+loop-holds : tie.Need-loop-holds Inv-loop μ-loop
+loop-holds c = (search needs, λ j b. absurd (not-suc-le-zero b))
+
+entry-requires : tie.Need-entry-requires Inv-loop μ-loop
+entry-requires c κs = search needs
+
+returns : tie.Need-returns Inv-loop μ-loop
+returns c = sym (fails _ (λ w. let z = fair-facts _ w _ (c .before .before .loop-test .taken) in omega arith))
+
+returns-2 : tie.Need-returns-2 Inv-loop μ-loop
+returns-2 c = sym (fails _ (λ w. let z = fair-facts _ w _ (c .before .before .before .loop-test .taken) in omega arith))
+
+add-i : tie.Need-add-i Inv-loop μ-loop
+add-i c = search needs
+
+loop-less : tie.Need-loop-less Inv-loop μ-loop
+loop-less c = search needs
+
+loop-again : tie.Need-loop-again Inv-loop μ-loop
+loop-again c = (search needs, below-more _ _ (c .before .before .before .before .loop .inv .1) (omega arith))
+
+returns-3 : tie.Need-returns-3 Inv-loop μ-loop
+returns-3 c = sym (fair-test _ (λ j b. c .before .loop .inv .1 j (omega arith)))
+
+pub fair-spec : {M : Type 1} → statement M
+fair-spec =
+    tie.close
+    (tie.spec
+    Inv-loop
+    μ-loop
+    loop-holds
+    entry-requires
+    returns
+    returns-2
+    add-i
+    loop-less
+    loop-again
+    returns-3)

@@ -1,0 +1,28 @@
+-- `network::table::neighbours` meets its contract. Assumes nothing.
+use borrow.Author.Needs.{needs}
+use Rattle.network.specs.Rows.{row-lies}
+use Rattle.network.specs.Layout.{links, starts, head}
+use Rattle.network.specs.Layout.{row}
+use borrow.Author.Needs.{needs}
+use Rattle.network.proofs.table.neighbours.Statement.{statement}
+use Rattle.network.proofs.table.neighbours.Tie as tie
+
+head-requires : tie.Need-head-requires
+head-requires c κs = search needs
+
+starts-requires : tie.Need-starts-requires
+starts-requires c κs = rw (c .head .ensures .0) (c .before .before .pre .0 .complete)
+
+links-requires : tie.Need-links-requires
+links-requires c κs = rw (c .before .head .ensures .0) (c .before .before .before .pre .0 .complete)
+
+line-requires : tie.Need-line-requires
+line-requires c κs = rw (c .before .starts .ensures, c .links .ensures, c .before .before .head .ensures .0) (row-lies _ _ _ (c .before .before .before .before .pre .0 .rows .spans) _ (c .before .before .before .before .pre .1))
+
+returns : tie.Need-returns
+unfolding row
+returns c = cc
+
+pub neighbours-spec : {M : Type 1} → statement M
+neighbours-spec =
+    tie.close (tie.spec head-requires starts-requires links-requires line-requires returns)
