@@ -9,7 +9,7 @@ use lib.ListN.{length, length-append}
 use Rattle.lists.specs.Lists.{at}
 use Rattle.lists.specs.Places.{at-append, part-append}
 use Rattle.network.specs.Layout.{size, needs, starts, last, entries, links, head, row}
-use Rattle.network.specs.Holds.{complete, holds}
+use Rattle.network.specs.Holds.{complete, twoWay, holds}
 use Rattle.network.specs.Answers.{Alike}
 
 -- the sections of a table whose row starts begin at h, in a slice that goes on with x
@@ -33,6 +33,10 @@ module _ (h : ℕ) (t x : List ℕ) (w : entries h t ≤ length t) where
   complete-on =
       rw (last-on, size-on, le-leb (entries h t) (length t) w, le-leb (entries h t) (length (t ++ x)) (omega (arith, length-append t x)))
 
+  two-way-on : twoWay h (t ++ x) ≡ twoWay h t
+  unfolding twoWay
+  two-way-on = rw (size-on, starts-on, links-on)
+
 -- and those of a network's table
 module _ (t x : List ℕ) (w : entries (head t) t ≤ length t) where
   needs-on : needs (t ++ x) ≡ needs t
@@ -41,7 +45,7 @@ module _ (t x : List ℕ) (w : entries (head t) t ≤ length t) where
 
   holds-on : holds (t ++ x) ≡ holds t
   unfolding holds
-  holds-on = rw (size-on (head t) t x w, complete-on (head t) t x w, needs-on, starts-on (head t) t x w, links-on (head t) t x w)
+  holds-on = rw (size-on (head t) t x w, complete-on (head t) t x w, needs-on, two-way-on (head t) t x w)
 
   row-on : (i : ℕ) → row (t ++ x) i ≡ row t i
   unfolding row

@@ -9,7 +9,7 @@ use Rattle.lists.specs.Lists.{at}
 use Rattle.lists.specs.Below.{allBelow, sumBelow, joinBelow, mapBelow}
 use Rattle.network.specs.Limits.{maxLines, maxEntries, maxBytes}
 use Rattle.network.specs.Layout.{rowAt, needs, starts, links, row, lines}
-use Rattle.network.specs.Holds.{within, complete, fairNeeds, neverFall, shortRows, tidy, tidyRow, tidyRows, soundRows, mirrored, holds}
+use Rattle.network.specs.Holds.{within, complete, fairNeeds, neverFall, shortRows, tidy, tidyRow, tidyRows, soundRows, mirrored, twoWay, holds}
 use Rattle.network.specs.Answers.{degreeOutcome, rowOutcome}
 
 most-lines : maxLines ≡ 5888
@@ -31,7 +31,7 @@ unfolding path
 networks = (1 ∷ 24 ∷ 0 ∷ 0 ∷ []) ∷ path ∷ (path ++ 9 ∷ 9 ∷ []) ∷ []
 
 networks-hold : map holds networks ≡ true ∷ true ∷ true ∷ []
-unfolding networks holds complete within fairNeeds soundRows neverFall shortRows tidyRows tidyRow tidy mirrored rowAt needs starts links row at allBelow
+unfolding networks holds twoWay complete within fairNeeds soundRows neverFall shortRows tidyRows tidyRow tidy mirrored rowAt needs starts links row at allBelow
 networks-hold = refl
 
 -- Path with bus 2's row naming bus 0, which does not name bus 2
@@ -63,7 +63,7 @@ others =
 
 others-do-not :
     map holds others ≡ false ∷ false ∷ false ∷ false ∷ false ∷ false ∷ false ∷ false ∷ false ∷ false ∷ false ∷ false ∷ false ∷ []
-unfolding others holds complete within fairNeeds soundRows neverFall shortRows tidyRows tidyRow tidy mirrored rowAt needs starts links row at allBelow
+unfolding others holds twoWay complete within fairNeeds soundRows neverFall shortRows tidyRows tidyRow tidy mirrored rowAt needs starts links row at allBelow
 others-do-not = refl
 
 -- a bus with lines to n others: 23 are allowed, 24 are not
@@ -71,31 +71,31 @@ star : ℕ → List ℕ
 star n = suc n ∷ replicate (suc n) 1 ++ (0 ∷ mapBelow (suc n) (λ i. n + i)) ++ mapBelow n suc ++ replicate n 0
 
 stars : (holds (star 23) ≡ true) × (holds (star 24) ≡ false)
-unfolding star mapBelow joinBelow holds complete within fairNeeds soundRows neverFall shortRows tidyRows tidyRow tidy mirrored rowAt needs starts links row at allBelow
+unfolding star mapBelow joinBelow holds twoWay complete within fairNeeds soundRows neverFall shortRows tidyRows tidyRow tidy mirrored rowAt needs starts links row at allBelow
 stars = (refl, refl)
 
 path-lines : lines path ≡ 2
-unfolding path lines sumBelow holds complete within fairNeeds soundRows neverFall shortRows tidyRows tidyRow tidy mirrored rowAt needs starts links row at allBelow
+unfolding path lines sumBelow holds twoWay complete within fairNeeds soundRows neverFall shortRows tidyRows tidyRow tidy mirrored rowAt needs starts links row at allBelow
 path-lines = refl
 
 degrees : (degreeOutcome path 0 ∷ degreeOutcome path 1 ∷ degreeOutcome path 2 ∷ degreeOutcome path 3 ∷ []) ≡ gives 1 ∷ gives 2 ∷ gives 1 ∷ refuses 13 ∷ []
-unfolding path holds complete within fairNeeds soundRows neverFall shortRows tidyRows tidyRow tidy mirrored rowAt needs starts links row at allBelow
+unfolding path holds twoWay complete within fairNeeds soundRows neverFall shortRows tidyRows tidyRow tidy mirrored rowAt needs starts links row at allBelow
 degrees = refl
 
 rows : (rowOutcome path 0 ∷ rowOutcome path 1 ∷ rowOutcome path 2 ∷ rowOutcome path 3 ∷ []) ≡ (1 ∷ []) ∷ (0 ∷ 2 ∷ []) ∷ (1 ∷ []) ∷ [] ∷ []
-unfolding path holds complete within fairNeeds soundRows neverFall shortRows tidyRows tidyRow tidy mirrored rowAt needs starts links row at allBelow
+unfolding path holds twoWay complete within fairNeeds soundRows neverFall shortRows tidyRows tidyRow tidy mirrored rowAt needs starts links row at allBelow
 rows = refl
 
 -- an empty slice, and a table with one mirror missing: 11, before any word on the bus
 no-networks : (degreeOutcome [] 0 ∷ degreeOutcome one-sided 0 ∷ degreeOutcome one-sided 7 ∷ []) ≡ refuses 11 ∷ refuses 11 ∷ refuses 11 ∷ []
-unfolding one-sided holds complete within fairNeeds soundRows neverFall shortRows tidyRows tidyRow tidy mirrored rowAt needs starts links row at allBelow
+unfolding one-sided holds twoWay complete within fairNeeds soundRows neverFall shortRows tidyRows tidyRow tidy mirrored rowAt needs starts links row at allBelow
 no-networks = refl
 
 no-rows : (rowOutcome [] 0 ∷ rowOutcome one-sided 0 ∷ []) ≡ [] ∷ [] ∷ []
-unfolding one-sided holds complete within fairNeeds soundRows neverFall shortRows tidyRows tidyRow tidy mirrored rowAt needs starts links row at allBelow
+unfolding one-sided holds twoWay complete within fairNeeds soundRows neverFall shortRows tidyRows tidyRow tidy mirrored rowAt needs starts links row at allBelow
 no-rows = refl
 
 -- a longer tail
 same-answers : (degreeOutcome (path ++ 9 ∷ 9 ∷ []) 1 ≡ gives 2) × (rowOutcome (path ++ 9 ∷ 9 ∷ []) 1 ≡ 0 ∷ 2 ∷ [])
-unfolding path holds complete within fairNeeds soundRows neverFall shortRows tidyRows tidyRow tidy mirrored rowAt needs starts links row at allBelow
+unfolding path holds twoWay complete within fairNeeds soundRows neverFall shortRows tidyRows tidyRow tidy mirrored rowAt needs starts links row at allBelow
 same-answers = (refl, refl)

@@ -15,7 +15,7 @@ use Rattle.lists.specs.Loops.{allBelow-at, allBelow-by}
 use Rattle.network.specs.Limits.{maxBuses, maxDegree, maxNeed}
 use Rattle.network.specs.Layout.{rowAt, size, needs, starts, entries, links, head}
 use Rattle.network.specs.Rows.{last-read, room}
-use Rattle.network.specs.Holds.{within, same, complete, fairNeeds, neverFall, shortRows, tidy, tidyRow, tidyRows, soundRows, mirrored, holds, Complete, FairNeeds, Steps, TidyRow, SoundRows, Mirrored, Holds}
+use Rattle.network.specs.Holds.{within, same, complete, fairNeeds, neverFall, shortRows, tidy, tidyRow, tidyRows, soundRows, mirrored, twoWay, holds, Complete, FairNeeds, Steps, TidyRow, SoundRows, Mirrored, Holds}
 
 pub within-facts : (a b x : ℕ) → within a b x ≡ true → (a ≤ x) × (x ≤ b)
 unfolding within
@@ -151,23 +151,24 @@ module _ (n : ℕ) (s l : List ℕ) where
 
 module _ (t : List ℕ) where
   pub holds-facts : holds t ≡ true → Holds t
-  unfolding holds
+  unfolding holds twoWay
   holds-facts w =
+      let n = size t in
       let s = starts (head t) t in
       let l = links (head t) t in
-      let w2 = and-left (complete (head t) t && fairNeeds (needs t) && soundRows (size t) s l) _ w in
-      let w1 = and-left (complete (head t) t && fairNeeds (needs t)) _ w2 in
+      let w1 = and-left (complete (head t) t && fairNeeds (needs t)) _ w in
+      let w2 = and-right (complete (head t) t && fairNeeds (needs t)) _ w in
       let c = complete-facts (head t) t (and-left (complete (head t) t) _ w1) in
       let g = room (head t) t c in
       record {
         complete = c;
         fair = fair-facts (needs t) (and-right (complete (head t) t) _ w1);
-        rows = rows-facts (size t) s l (g .0) (g .1) (and-right (complete (head t) t && fairNeeds (needs t)) _ w2);
-        mirrored = mirrored-facts (size t) s l (and-right (complete (head t) t && fairNeeds (needs t) && soundRows (size t) s l) _ w);
+        rows = rows-facts n s l (g .0) (g .1) (and-left (soundRows n s l) _ w2);
+        mirrored = mirrored-facts n s l (and-right (soundRows n s l) _ w2);
       }
 
   pub holds-test : Holds t → holds t ≡ true
-  unfolding holds
+  unfolding holds twoWay
   holds-test w =
       let s = starts (head t) t in
       let l = links (head t) t in
@@ -176,6 +177,6 @@ module _ (t : List ℕ) where
 
   -- as code tests it: the row starts begin at h and the needs are q, and b is the test of the rows
   pub holds-read : {h : ℕ} {q : List ℕ} {b : Bool} → h ≡ head t → q ≡ needs t → complete h t ≡ true → fairNeeds q ≡ true
-      → b ≡ (soundRows (size t) (starts h t) (links h t) && mirrored (size t) (starts h t) (links h t)) → b ≡ holds t
+      → b ≡ twoWay h t → b ≡ holds t
   unfolding holds
   holds-read eh eq c f r = rw (rw eh at c, rw eq at f) (rw eh at r)

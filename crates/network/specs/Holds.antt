@@ -22,11 +22,11 @@ same false b = not b
 
 -- ---- tests
 
--- n is from 1 to 512, and the slice is as long as its table
+-- n is from 1 to the most buses, and the slice has all entries of its table
 unfoldable pub complete : ℕ → List ℕ → Bool
 complete h t = within 1 maxBuses (size t) && leb (entries h t) (length t)
 
--- needs are from 1 to 24
+-- needs are from 1 to the highest
 unfoldable pub fairNeeds : List ℕ → Bool
 fairNeeds q = allBelow (length q) (λ i. within 1 maxNeed (at q i))
 
@@ -34,7 +34,7 @@ fairNeeds q = allBelow (length q) (λ i. within 1 maxNeed (at q i))
 unfoldable pub neverFall : ℕ → List ℕ → Bool
 neverFall n s = allBelow n (λ i. leb (at s i) (at s (i + 1)))
 
--- rows are of at most 23
+-- rows are of at most as many numbers as a bus may have lines
 unfoldable pub shortRows : ℕ → List ℕ → Bool
 shortRows n s = allBelow n (λ i. leb (at s (i + 1)) (at s i + maxDegree))
 
@@ -48,7 +48,7 @@ tidyRow n i r = allBelow (length r) (tidy n i r)
 unfoldable pub tidyRows : ℕ → List ℕ → List ℕ → Bool
 tidyRows n s l = allBelow n (λ i. tidyRow n i (rowAt s l i))
 
--- the first start is 0; starts never fall; rows are of at most 23, and tidy
+-- the first start is 0; starts never fall; rows are short and tidy
 unfoldable pub soundRows : ℕ → List ℕ → List ℕ → Bool
 soundRows n s l = eqb (at s 0) 0 && neverFall n s && shortRows n s && tidyRows n s l
 
@@ -56,11 +56,13 @@ soundRows n s l = eqb (at s 0) 0 && neverFall n s && shortRows n s && tidyRows n
 unfoldable pub mirrored : ℕ → List ℕ → List ℕ → Bool
 mirrored n s l = allBelow n (λ i. allBelow n (λ j. same (has j (rowAt s l i)) (has i (rowAt s l j))))
 
+-- both of a table whose row starts begin at h
+unfoldable pub twoWay : ℕ → List ℕ → Bool
+twoWay h t = soundRows (size t) (starts h t) (links h t) && mirrored (size t) (starts h t) (links h t)
+
 -- a slice holds a network
 unfoldable pub holds : List ℕ → Bool
-holds t =
-    complete (head t) t && fairNeeds (needs t) && soundRows (size t) (starts (head t) t) (links (head t) t)
-    && mirrored (size t) (starts (head t) t) (links (head t) t)
+holds t = complete (head t) t && fairNeeds (needs t) && twoWay (head t) t
 
 -- ---- the same as facts
 
@@ -72,7 +74,7 @@ pub record Complete (h : ℕ) (t : List ℕ) : Type 0 where
 abbrev pub FairNeeds : List ℕ → Type 0
 FairNeeds q = (i : ℕ) → i < length q → (1 ≤ at q i) × (at q i ≤ maxNeed)
 
--- each row ends no earlier than it starts, and at most 23 later
+-- each row ends no earlier than it starts, and is short
 abbrev pub Steps : ℕ → List ℕ → Type 0
 Steps n s = (i : ℕ) → i < n → (at s i ≤ at s (i + 1)) × (at s (i + 1) ≤ at s i + maxDegree)
 

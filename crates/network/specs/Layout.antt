@@ -52,6 +52,6 @@ row t i = rowAt (starts (head t) t) (links (head t) t) i
 abbrev pub degree : List ℕ → ℕ → ℕ
 degree t i = length (row t i)
 
--- m, the number of lines: of the pairs of buses, each of which the other's row lists, counted at the higher bus
+-- m, the number of lines: at each bus its neighbours below it, so that a line is counted once, at its higher bus
 unfoldable pub lines : List ℕ → ℕ
 lines t = sumBelow (size t) (λ i. countBelow i (λ j. has j (row t i)))

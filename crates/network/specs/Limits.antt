@@ -1,5 +1,5 @@
--- The limits of a network, for contracts to cite. The code states 512, 23 and 24 as constants of `Network`; that it has the same ones is
--- proved (`Network::limits`, and each test of a table).
+-- The limits of a network, for contracts to cite. The code has them as constants of `Network`, and it is proved that they are these:
+-- `Network::limits` says so, and no test of a table would be proved with another.
 -- Definitions only. Assumes nothing.
 use Prim.Native.Nat.{ℕ, _+_, _*_, _/_}
 

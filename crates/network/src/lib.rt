@@ -43,7 +43,7 @@ pub struct Limits {
     pub bytes: usize,
 }
 
-// How many neighbours a bus has.
+// How many neighbours a bus has, or why it is not said.
 pub enum Degree {
     Is(usize),
     Refused(Refusal),
@@ -77,6 +77,7 @@ impl Network {
         neighbours(lent, bus)
     }
 
+    // How many neighbours a bus of the lent table has.
     pub fn degree(lent: &[u16], bus: usize) -> Degree
         ensures { λ r. ⌜ degreeSays r ≡ degreeOutcome (now (lent .entry)) bus ⌝ }
     {

@@ -18,7 +18,7 @@ pub fn entry(l: &[u16], i: usize) -> usize
     l[i] as usize
 }
 
-// Whether the n rows that start at s never start before the one before, and none is too long.
+// Whether none of the n rows that start at s ends before it starts, or is too long.
 fn spans(s: &[u16], n: usize) -> bool
     requires { ⌜ n < length (now s) ⌝ }
     ensures { λ b. ⌜ b ≡ (neverFall n (now (s .entry)) && shortRows n (now (s .entry))) ⌝ }

@@ -1,17 +1,16 @@
 // Line tables in lent slices: where a table has what, and whether it is a network's. Row starts begin at h.
 ghost use mathlib.Core.Path.{_≡_};
-ghost use mathlib.Core.Bool.{_&&_};
 ghost use Prim.Native.Nat.{_+_, _^_, _≤_, _<_};
 ghost use lib.ListN.{length};
 ghost use Rattle.network.specs.Layout.{size, needs, starts, links, head, row, lines};
-ghost use Rattle.network.specs.Holds.{complete, fairNeeds, soundRows, mirrored, holds, Complete, Holds};
+ghost use Rattle.network.specs.Holds.{complete, fairNeeds, twoWay, holds, Complete, Holds};
 use super::Network;
 use super::rows::entry;
 use super::rows::line;
 use super::rows::mirrored;
 use super::rows::sound_rows;
 
-// The sections of a table: how many buses, the needs, the row starts, the neighbour numbers. Row starts begin at h.
+// How many buses.
 pub fn size(t: &[u16]) -> usize
     requires { ⌜ 1 ≤ length (now t) ⌝ }
     ensures { λ r. ⌜ (r ≡ size (now (t .entry))) × (r < 65536) ⌝ }
@@ -19,6 +18,7 @@ pub fn size(t: &[u16]) -> usize
     entry(t, 0)
 }
 
+// The needs.
 pub fn needs(t: &[u16]) -> &[u16]
     requires { ⌜ 1 + size (now t) ≤ length (now t) ⌝ }
     ensures { λ r. ⌜ now r ≡ needs (now (t .entry)) ⌝ }
@@ -28,13 +28,14 @@ pub fn needs(t: &[u16]) -> &[u16]
 }
 
 // Where a network's row starts begin.
-fn head(t: &[u16]) -> usize
+pub fn head(t: &[u16]) -> usize
     requires { ⌜ 1 ≤ length (now t) ⌝ }
     ensures { λ r. ⌜ (r ≡ head (now (t .entry))) × (r ≤ 65536) ⌝ }
 {
     1 + size(t)
 }
 
+// The row starts.
 pub fn starts(t: &[u16], h: usize) -> &[u16]
     requires { ⌜ Complete h (now t) ⌝ }
     ensures { λ r. ⌜ now r ≡ starts h (now (t .entry)) ⌝ }
@@ -43,6 +44,7 @@ pub fn starts(t: &[u16], h: usize) -> &[u16]
     &t[h..h + n + 1]
 }
 
+// The neighbour numbers.
 pub fn links(t: &[u16], h: usize) -> &[u16]
     requires { ⌜ Complete h (now t) ⌝ }
     ensures { λ r. ⌜ now r ≡ links h (now (t .entry)) ⌝ }
@@ -53,7 +55,7 @@ pub fn links(t: &[u16], h: usize) -> &[u16]
     &t[a..e]
 }
 
-// Whether t has all entries of a table of 1 to 512 buses.
+// Whether t has all entries of its table, and no more buses than a network may have.
 fn complete(t: &[u16], h: usize) -> bool
     requires { ⌜ (1 ≤ length (now t)) × (h < 2 ^ 32) ⌝ }
     ensures { λ b. ⌜ b ≡ complete h (now (t .entry)) ⌝ }
@@ -89,10 +91,10 @@ fn fair(q: &[u16]) -> bool
     true
 }
 
-// Whether the rows of t are those of a line table, and every neighbour is mirrored.
+// Whether the rows of t are sound, and every neighbour is mirrored.
 fn two_way(t: &[u16], h: usize) -> bool
     requires { ⌜ Complete h (now t) ⌝ }
-    ensures { λ b. ⌜ b ≡ (soundRows (size (now (t .entry))) (starts h (now (t .entry))) (links h (now (t .entry))) && mirrored (size (now (t .entry))) (starts h (now (t .entry))) (links h (now (t .entry)))) ⌝ }
+    ensures { λ b. ⌜ b ≡ twoWay h (now (t .entry)) ⌝ }
 {
     let n = size(t);
     let s = starts(t, h);

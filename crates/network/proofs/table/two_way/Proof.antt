@@ -4,6 +4,7 @@ use native.Mathlib.Omega.{arith}
 use mathlib.Core.Path.{sym}
 use Rattle.lists.specs.Lists.{at}
 use Rattle.lists.specs.Tests.{passed, failed, and-fails-left}
+use Rattle.network.specs.Holds.{twoWay}
 use Rattle.network.specs.Facts.{rows-facts}
 use Rattle.network.specs.Rows.{room}
 use Rattle.network.specs.Layout.{size, links, starts}
@@ -23,6 +24,7 @@ sound-rows-requires : tie.Need-sound-rows-requires
 sound-rows-requires c κs = rw (c .before .before .size .ensures .0, c .before .starts .ensures, c .links .ensures) (room _ _ (c .before .before .before .before .pre))
 
 returns : tie.Need-returns
+unfolding twoWay
 returns c = sym (and-fails-left _ _ (rw (c .before .before .before .before .size .ensures .0, c .before .before .before .starts .ensures, c .before .before .links .ensures) at (failed (c .before .sound-rows .ensures) (c .if1 .taken))))
 
 mirrored-requires : tie.Need-mirrored-requires
@@ -32,6 +34,7 @@ mirrored-requires c κs =
     (rw (c .before .before .before .before .size .ensures .0, c .before .before .before .starts .ensures, c .before .before .links .ensures) (rows-facts _ _ _ (g .0) (g .1) r), omega (arith, c .before .before .before .before .before .before .pre .most))
 
 returns-2 : tie.Need-returns-2
+unfolding twoWay
 returns-2 c =
     let r = rw (c .before .before .before .before .before .size .ensures .0, c .before .before .before .before .starts .ensures, c .before .before .before .links .ensures) at (passed (c .before .before .sound-rows .ensures) (c .before .if1 .left)) in
     rw r (rw (c .before .before .before .before .before .size .ensures .0, c .before .before .before .before .starts .ensures, c .before .before .before .links .ensures) at (c .mirrored .ensures))
