@@ -10,20 +10,20 @@ use lib.Dec.{leb, ltb, eqb}
 use lib.ListN.{length}
 use Rattle.lists.specs.Lists.{has, at}
 use Rattle.lists.specs.Below.{allBelow}
-use Rattle.lists.specs.Tests.{and-both, and-left, and-right}
+use Rattle.lists.specs.Tests.{and-both, and-left, and-right, and-fails-left}
 use Rattle.lists.specs.Loops.{allBelow-at, allBelow-by}
 use Rattle.network.specs.Limits.{maxBuses, maxDegree, maxNeed}
 use Rattle.network.specs.Layout.{rowAt, size, needs, starts, entries, links, head}
 use Rattle.network.specs.Rows.{last-read, room}
 use Rattle.network.specs.Holds.{within, same, complete, fairNeeds, neverFall, shortRows, tidy, tidyRow, tidyRows, soundRows, mirrored, twoWay, holds, Complete, FairNeeds, Steps, TidyRow, SoundRows, Mirrored, Holds}
 
-pub within-facts : (a b x : ℕ) → within a b x ≡ true → (a ≤ x) × (x ≤ b)
-unfolding within
-within-facts a b x w = (leb-true a x (and-left (leb a x) (leb x b) w), leb-true x b (and-right (leb a x) (leb x b) w))
-
 pub within-test : (a b x : ℕ) → a ≤ x → x ≤ b → within a b x ≡ true
 unfolding within
 within-test a b x p q = and-both (leb a x) (leb x b) (le-leb a x p) (le-leb x b q)
+
+pub within-facts : (a b x : ℕ) → within a b x ≡ true → (a ≤ x) × (x ≤ b)
+unfolding within
+within-facts a b x w = (leb-true a x (and-left (leb a x) (leb x b) w), leb-true x b (and-right (leb a x) (leb x b) w))
 
 same-facts : (a b : Bool) → same a b ≡ true → a ≡ b
 same-facts true b w = sym w
@@ -146,6 +146,20 @@ module _ (n : ℕ) (s l : List ℕ) where
   pub mirrored-test : Mirrored n s l → mirrored n s l ≡ true
   unfolding mirrored
   mirrored-test f = allBelow-by _ n (λ i b. allBelow-by _ n (λ j c. same-test _ _ (f i j b c)))
+
+-- ---- a table, as code tests it: its sections were read into n, s and l
+
+module _ (h : ℕ) (t : List ℕ) {n : ℕ} {s l : List ℕ} (en : n ≡ size t) (es : s ≡ starts h t) (el : l ≡ links h t) where
+  pub room-read : Complete h t → (n < length s) × (at s n ≤ length l)
+  room-read w = rw (en, es, el) (room h t w)
+
+  pub two-way-fails : soundRows n s l ≡ false → false ≡ twoWay h t
+  unfolding twoWay
+  two-way-fails f = sym (and-fails-left _ _ (rw (en, es, el) at f))
+
+  pub two-way-read : {b : Bool} → soundRows n s l ≡ true → b ≡ mirrored n s l → b ≡ twoWay h t
+  unfolding twoWay
+  two-way-read r m = rw (rw (en, es, el) at r) (rw (en, es, el) at m)
 
 -- ---- a network
 

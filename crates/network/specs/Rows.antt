@@ -1,17 +1,22 @@
 -- Laws of rows and of the sections of a table. Assumes nothing.
 use mathlib.Core.List.{List}
-use mathlib.Core.Path.{_≡_, ap, _∙_}
+use mathlib.Core.Path.{_≡_, ap, ap₂, _∙_}
 use Prim.Native.Nat.{ℕ, _+_, _-_, _≤_, _<_}
 use native.Mathlib.Nat.{le-refl, le-trans}
 use native.Mathlib.Numerals.{add-one}
 use native.Mathlib.Decide.{le-ind}
 use native.Mathlib.Omega.{arith}
 use lib.ListN.{length}
-use Rattle.lists.specs.Lists.{_∈_, at, Once}
+use Rattle.lists.specs.Lists.{_∈_, at, part, Once}
 use Rattle.lists.specs.Places.{length-part, at-part, ascending-once, at-in}
 use Rattle.network.specs.Limits.{maxDegree}
-use Rattle.network.specs.Layout.{rowAt, size, needs, starts, last, entries, links}
+use Rattle.network.specs.Layout.{rowAt, size, needs, starts, last, entries, links, head, row}
 use Rattle.network.specs.Holds.{Complete, Spans, TidyRow}
+
+-- a row between the starts a and e, as code reads it
+pub row-read : (s l : List ℕ) (i : ℕ) {a e : ℕ} → a ≡ at s i → e ≡ at s (i + 1) → part a e l ≡ rowAt s l i
+unfolding rowAt
+row-read s l i p q = ap₂ (λ a e. part a e l) p q
 
 -- ---- rows that lie among the numbers l
 
@@ -43,11 +48,29 @@ module _ {n i : ℕ} {r : List ℕ} (w : TidyRow n i r) where
   pub tidy-others : i ∈ r → ⊥
   tidy-others m = let k = at-in i r m in w .others (k .0) (k .1) (k .2)
 
--- ---- the sections of a table
+-- ---- the sections of a table, as code reads them: the bus count into n, the last row start into x
 
--- the last row start, as code reads it
+pub needs-read : (t : List ℕ) {n : ℕ} → n ≡ size t → part 1 (1 + n) t ≡ needs t
+unfolding needs
+needs-read t e = ap (λ n. part 1 (1 + n) t) e
+
+pub starts-read : (h : ℕ) (t : List ℕ) {n : ℕ} → n ≡ size t → part h (h + n + 1) t ≡ starts h t
+unfolding starts
+starts-read h t e = ap (λ n. part h (h + n + 1) t) e
+
 pub last-read : (h : ℕ) (t : List ℕ) {n x : ℕ} → n ≡ size t → x ≡ at t (h + n) → x ≡ last h t
-last-read h t e p = p ∙ ap (λ m. at t (h + m)) e
+last-read h t e p = p ∙ ap (λ n. at t (h + n)) e
+
+pub links-read : (h : ℕ) (t : List ℕ) {n x : ℕ} → n ≡ size t → x ≡ at t (h + n) → part (h + n + 1) (h + n + 1 + x) t ≡ links h t
+unfolding links
+links-read h t e p = ap₂ (λ n x. part (h + n + 1) (h + n + 1 + x) t) e (last-read h t e p)
+
+-- and a row of a network's table, the row starts being s and the neighbour numbers l
+pub row-in : (t : List ℕ) (i : ℕ) {h : ℕ} {s l : List ℕ} → h ≡ head t → s ≡ starts h t → l ≡ links h t → rowAt s l i ≡ row t i
+unfolding row
+row-in t i eh es el = rw (es, el, eh)
+
+-- ---- and how long they are
 
 module _ (h : ℕ) (t : List ℕ) (w : Complete h t) where
   pub length-needs : 1 + size t ≤ h → length (needs t) ≡ size t

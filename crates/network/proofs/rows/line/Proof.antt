@@ -1,7 +1,7 @@
 -- `network::rows::line` meets its contract. Assumes nothing.
 use borrow.Author.Needs.{needs}
-use Rattle.network.specs.Layout.{rowAt}
 use borrow.Author.Needs.{needs}
+use Rattle.network.specs.Rows.{row-read}
 use Rattle.network.proofs.rows.line.Statement.{statement}
 use Rattle.network.proofs.rows.line.Tie as tie
 
@@ -27,8 +27,7 @@ part-result-end : tie.Need-part-result-end
 part-result-end c = search needs
 
 returns : tie.Need-returns
-unfolding rowAt
-returns c = cc
+returns c = row-read _ _ _ (c .before .before .entry .ensures .0) (c .before .entry2 .ensures .0)
 
 pub line-spec : {M : Type 1} → statement M
 line-spec =

@@ -1,8 +1,7 @@
 -- `network::table::links` meets its contract. Assumes nothing.
 use borrow.Author.Needs.{needs}
 use native.Mathlib.Omega.{arith}
-use Rattle.network.specs.Rows.{last-read}
-use Rattle.network.specs.Layout.{size, links}
+use Rattle.network.specs.Rows.{last-read, links-read}
 use borrow.Author.Needs.{needs}
 use Rattle.network.proofs.table.links.Statement.{statement}
 use Rattle.network.proofs.table.links.Tie as tie
@@ -38,8 +37,7 @@ part-result-end : tie.Need-part-result-end
 part-result-end c = let m = last-read _ _ (c .before .size .ensures .0) (c .entry .ensures .0) in omega arith
 
 returns : tie.Need-returns
-unfolding links
-returns c = cc
+returns c = links-read _ _ (c .before .before .size .ensures .0) (c .before .entry .ensures .0)
 
 pub links-spec : {M : Type 1} → statement M
 links-spec =

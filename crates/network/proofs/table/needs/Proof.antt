@@ -1,7 +1,7 @@
 -- `network::table::needs` meets its contract. Assumes nothing.
 use borrow.Author.Needs.{needs}
-use Rattle.network.specs.Layout.{needs as needsOf}
 use borrow.Author.Needs.{needs}
+use Rattle.network.specs.Rows.{needs-read}
 use Rattle.network.proofs.table.needs.Statement.{statement}
 use Rattle.network.proofs.table.needs.Tie as tie
 
@@ -21,8 +21,7 @@ part-result-end : tie.Need-part-result-end
 part-result-end c = search needs
 
 returns : tie.Need-returns
-unfolding needsOf
-returns c = cc
+returns c = needs-read _ (c .before .size .ensures .0)
 
 pub needs-spec : {M : Type 1} → statement M
 needs-spec =

@@ -1,8 +1,7 @@
 -- `network::table::neighbours` meets its contract. Assumes nothing.
 use borrow.Author.Needs.{needs}
-use Rattle.network.specs.Rows.{row-lies}
-use Rattle.network.specs.Layout.{links, starts, head}
-use Rattle.network.specs.Layout.{row}
+use mathlib.Core.Path.{_∙_}
+use Rattle.network.specs.Rows.{row-lies, row-in}
 use borrow.Author.Needs.{needs}
 use Rattle.network.proofs.table.neighbours.Statement.{statement}
 use Rattle.network.proofs.table.neighbours.Tie as tie
@@ -16,12 +15,11 @@ starts-requires c κs = rw (c .head .ensures .0) (c .before .before .pre .0 .com
 links-requires : tie.Need-links-requires
 links-requires c κs = rw (c .before .head .ensures .0) (c .before .before .before .pre .0 .complete)
 
+returns : tie.Need-returns
+returns c = c .line .ensures ∙ row-in _ _ (c .before .before .before .head .ensures .0) (c .before .before .starts .ensures) (c .before .links .ensures)
+
 line-requires : tie.Need-line-requires
 line-requires c κs = rw (c .before .starts .ensures, c .links .ensures, c .before .before .head .ensures .0) (row-lies _ _ _ (c .before .before .before .before .pre .0 .rows .spans) _ (c .before .before .before .before .pre .1))
-
-returns : tie.Need-returns
-unfolding row
-returns c = cc
 
 pub neighbours-spec : {M : Type 1} → statement M
 neighbours-spec =

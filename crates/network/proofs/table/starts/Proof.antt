@@ -1,7 +1,7 @@
 -- `network::table::starts` meets its contract. Assumes nothing.
 use borrow.Author.Needs.{needs}
-use Rattle.network.specs.Layout.{starts}
 use borrow.Author.Needs.{needs}
+use Rattle.network.specs.Rows.{starts-read}
 use Rattle.network.proofs.table.starts.Statement.{statement}
 use Rattle.network.proofs.table.starts.Tie as tie
 
@@ -27,8 +27,7 @@ part-result-end : tie.Need-part-result-end
 part-result-end c = search needs
 
 returns : tie.Need-returns
-unfolding starts
-returns c = cc
+returns c = starts-read _ _ (c .before .size .ensures .0)
 
 pub starts-spec : {M : Type 1} → statement M
 starts-spec =
