@@ -8,7 +8,7 @@ use borrow.Author.Tests.{le-leb}
 use lib.ListN.{length, length-append}
 use Rattle.lists.specs.Lists.{at}
 use Rattle.lists.specs.Places.{at-append, part-append}
-use Rattle.network.specs.Layout.{size, needs, starts, last, entries, links, head, row}
+use Rattle.network.specs.Layout.{size, needs, starts, last, entries, links, startsAt, row}
 use Rattle.network.specs.Holds.{complete, twoWay, holds}
 use Rattle.network.specs.Answers.{Alike}
 
@@ -38,31 +38,31 @@ module _ (h : ℕ) (t x : List ℕ) (w : entries h t ≤ length t) where
   two-way-on = rw (size-on, starts-on, links-on)
 
 -- and those of a network's table
-module _ (t x : List ℕ) (w : entries (head t) t ≤ length t) where
+module _ (t x : List ℕ) (w : entries (startsAt t) t ≤ length t) where
   needs-on : needs (t ++ x) ≡ needs t
   unfolding needs
-  needs-on = rw (size-on (head t) t x w) (part-append 1 (1 + size t) t x (omega arith))
+  needs-on = rw (size-on (startsAt t) t x w) (part-append 1 (1 + size t) t x (omega arith))
 
   holds-on : holds (t ++ x) ≡ holds t
   unfolding holds
-  holds-on = rw (size-on (head t) t x w, complete-on (head t) t x w, needs-on, two-way-on (head t) t x w)
+  holds-on = rw (size-on (startsAt t) t x w, complete-on (startsAt t) t x w, needs-on, two-way-on (startsAt t) t x w)
 
   row-on : (i : ℕ) → row (t ++ x) i ≡ row t i
   unfolding row
-  row-on i = rw (size-on (head t) t x w, starts-on (head t) t x w, links-on (head t) t x w)
+  row-on i = rw (size-on (startsAt t) t x w, starts-on (startsAt t) t x w, links-on (startsAt t) t x w)
 
   on : Alike (t ++ x) t
   on = record {
     judged = holds-on;
-    sizes = size-on (head t) t x w;
+    sizes = size-on (startsAt t) t x w;
     needed = needs-on;
     rows = row-on;
-    degreeAnswers = λ bus. rw (holds-on, size-on (head t) t x w, row-on bus);
-    rowAnswers = λ bus. rw (holds-on, size-on (head t) t x w, row-on bus);
+    degreeAnswers = λ bus. rw (holds-on, size-on (startsAt t) t x w, row-on bus);
+    rowAnswers = λ bus. rw (holds-on, size-on (startsAt t) t x w, row-on bus);
   }
 
 -- whatever follows a table in the slice, x or y
-pub beyond : (t x y : List ℕ) → entries (head t) t ≤ length t → Alike (t ++ x) (t ++ y)
+pub beyond : (t x y : List ℕ) → entries (startsAt t) t ≤ length t → Alike (t ++ x) (t ++ y)
 beyond t x y w =
     let a = on t x w in
     let b = on t y w in

@@ -13,7 +13,7 @@ use Rattle.lists.specs.Below.{allBelow}
 use Rattle.lists.specs.Tests.{and-both, and-left, and-right, and-fails-left}
 use Rattle.lists.specs.Loops.{allBelow-at, allBelow-by}
 use Rattle.network.specs.Limits.{maxBuses, maxDegree, maxNeed}
-use Rattle.network.specs.Layout.{rowAt, size, needs, starts, entries, links, head}
+use Rattle.network.specs.Layout.{rowAt, size, needs, starts, entries, links, startsAt}
 use Rattle.network.specs.Rows.{last-read, room}
 use Rattle.network.specs.Holds.{within, same, complete, fairNeeds, neverFall, shortRows, tidy, tidyRow, tidyRows, soundRows, mirrored, twoWay, holds, Complete, FairNeeds, Steps, TidyRow, SoundRows, Mirrored, Holds}
 
@@ -168,15 +168,15 @@ module _ (t : List ℕ) where
   unfolding holds twoWay
   holds-facts w =
       let n = size t in
-      let s = starts (head t) t in
-      let l = links (head t) t in
-      let w1 = and-left (complete (head t) t && fairNeeds (needs t)) _ w in
-      let w2 = and-right (complete (head t) t && fairNeeds (needs t)) _ w in
-      let c = complete-facts (head t) t (and-left (complete (head t) t) _ w1) in
-      let g = room (head t) t c in
+      let s = starts (startsAt t) t in
+      let l = links (startsAt t) t in
+      let w1 = and-left (complete (startsAt t) t && fairNeeds (needs t)) _ w in
+      let w2 = and-right (complete (startsAt t) t && fairNeeds (needs t)) _ w in
+      let c = complete-facts (startsAt t) t (and-left (complete (startsAt t) t) _ w1) in
+      let g = room (startsAt t) t c in
       record {
         complete = c;
-        fair = fair-facts (needs t) (and-right (complete (head t) t) _ w1);
+        fair = fair-facts (needs t) (and-right (complete (startsAt t) t) _ w1);
         rows = rows-facts n s l (g .0) (g .1) (and-left (soundRows n s l) _ w2);
         mirrored = mirrored-facts n s l (and-right (soundRows n s l) _ w2);
       }
@@ -184,13 +184,13 @@ module _ (t : List ℕ) where
   pub holds-test : Holds t → holds t ≡ true
   unfolding holds twoWay
   holds-test w =
-      let s = starts (head t) t in
-      let l = links (head t) t in
-      rw (complete-test (head t) t (w .complete), fair-test (needs t) (w .fair), rows-test (size t) s l (w .rows))
+      let s = starts (startsAt t) t in
+      let l = links (startsAt t) t in
+      rw (complete-test (startsAt t) t (w .complete), fair-test (needs t) (w .fair), rows-test (size t) s l (w .rows))
       (mirrored-test (size t) s l (w .mirrored))
 
   -- as code tests it: the row starts begin at h and the needs are q, and b is the test of the rows
-  pub holds-read : {h : ℕ} {q : List ℕ} {b : Bool} → h ≡ head t → q ≡ needs t → complete h t ≡ true → fairNeeds q ≡ true
+  pub holds-read : {h : ℕ} {q : List ℕ} {b : Bool} → h ≡ startsAt t → q ≡ needs t → complete h t ≡ true → fairNeeds q ≡ true
       → b ≡ twoWay h t → b ≡ holds t
   unfolding holds
   holds-read eh eq c f r = rw (rw eh at c, rw eq at f) (rw eh at r)

@@ -9,7 +9,7 @@ use lib.ListN.{length}
 use Rattle.lists.specs.Lists.{has, at, Ascending}
 use Rattle.lists.specs.Below.{allBelow}
 use Rattle.network.specs.Limits.{maxBuses, maxDegree, maxNeed}
-use Rattle.network.specs.Layout.{rowAt, size, needs, starts, entries, links, head}
+use Rattle.network.specs.Layout.{rowAt, size, needs, starts, entries, links, startsAt}
 
 -- x is from a to b
 unfoldable pub within : ℕ → ℕ → ℕ → Bool
@@ -62,7 +62,7 @@ twoWay h t = soundRows (size t) (starts h t) (links h t) && mirrored (size t) (s
 
 -- a slice holds a network
 unfoldable pub holds : List ℕ → Bool
-holds t = complete (head t) t && fairNeeds (needs t) && twoWay (head t) t
+holds t = complete (startsAt t) t && fairNeeds (needs t) && twoWay (startsAt t) t
 
 -- ---- the same as facts
 
@@ -98,7 +98,7 @@ abbrev pub Mirrored : ℕ → List ℕ → List ℕ → Type 0
 Mirrored n s l = (i j : ℕ) → i < n → j < n → has j (rowAt s l i) ≡ has i (rowAt s l j)
 
 pub record Holds (t : List ℕ) : Type 0 where
-  pub complete : Complete (head t) t
+  pub complete : Complete (startsAt t) t
   pub fair : FairNeeds (needs t)
-  pub rows : SoundRows (size t) (starts (head t) t) (links (head t) t)
-  pub mirrored : Mirrored (size t) (starts (head t) t) (links (head t) t)
+  pub rows : SoundRows (size t) (starts (startsAt t) t) (links (startsAt t) t)
+  pub mirrored : Mirrored (size t) (starts (startsAt t) t) (links (startsAt t) t)

@@ -42,12 +42,12 @@ links h t = part (h + size t + 1) (entries h t) t
 -- ---- a network's table
 
 -- its row starts begin behind the needs
-abbrev pub head : List ℕ → ℕ
-head t = 1 + size t
+abbrev pub startsAt : List ℕ → ℕ
+startsAt t = 1 + size t
 
 -- the neighbours of bus i
 unfoldable pub row : List ℕ → ℕ → List ℕ
-row t i = rowAt (starts (head t) t) (links (head t) t) i
+row t i = rowAt (starts (startsAt t) t) (links (startsAt t) t) i
 
 abbrev pub degree : List ℕ → ℕ → ℕ
 degree t i = length (row t i)

@@ -11,7 +11,7 @@ use Rattle.lists.specs.Tests.{fails}
 use Rattle.lists.specs.Counts.{has-in}
 use Rattle.lists.specs.Range.{sumBelow-same, sumBelow-mirror, length-members}
 use Rattle.network.specs.Limits.{maxDegree, maxLines, maxEntries}
-use Rattle.network.specs.Layout.{rowAt, size, last, entries, links, head, row, lines}
+use Rattle.network.specs.Layout.{rowAt, size, last, entries, links, startsAt, row, lines}
 use Rattle.network.specs.Holds.{SoundRows, Mirrored, Holds}
 use Rattle.network.specs.Rows.{row-length, tidy-once, tidy-below, tidy-others, last-start, length-links}
 
@@ -38,18 +38,18 @@ module _ (n : ℕ) (s l : List ℕ) (w : SoundRows n s l) where
 
 module _ (t : List ℕ) (w : Holds t) where
   -- the number of neighbour numbers is even, and m is half of it
-  pub two-for-each : last (head t) t ≡ 2 * lines t
+  pub two-for-each : last (startsAt t) t ≡ 2 * lines t
   unfolding lines row
-  two-for-each = sym (last-start (head t) t (w .complete)) ∙ paired _ _ _ (w .rows) (w .mirrored)
+  two-for-each = sym (last-start (startsAt t) t (w .complete)) ∙ paired _ _ _ (w .rows) (w .mirrored)
 
-  pub half : length (links (head t) t) / 2 ≡ lines t
-  half = omega (arith, length-links (head t) t (w .complete), two-for-each)
+  pub half : length (links (startsAt t) t) / 2 ≡ lines t
+  half = omega (arith, length-links (startsAt t) t (w .complete), two-for-each)
 
-  last-few : last (head t) t ≤ size t * maxDegree
-  last-few = omega (arith, last-start (head t) t (w .complete), start-few _ _ _ (w .rows) (size t) (omega arith))
+  last-few : last (startsAt t) t ≤ size t * maxDegree
+  last-few = omega (arith, last-start (startsAt t) t (w .complete), start-few _ _ _ (w .rows) (size t) (omega arith))
 
   pub lines-few : lines t ≤ maxLines
   lines-few = omega (arith, two-for-each, last-few, w .complete .most)
 
-  pub entries-few : entries (head t) t ≤ maxEntries
+  pub entries-few : entries (startsAt t) t ≤ maxEntries
   entries-few = omega (arith, last-few, w .complete .most)

@@ -10,7 +10,7 @@ use lib.ListN.{length}
 use Rattle.lists.specs.Lists.{_∈_, at, part, Once}
 use Rattle.lists.specs.Places.{length-part, at-part, ascending-once, at-in}
 use Rattle.network.specs.Limits.{maxDegree}
-use Rattle.network.specs.Layout.{rowAt, size, needs, starts, last, entries, links, head, row}
+use Rattle.network.specs.Layout.{rowAt, size, needs, starts, last, entries, links, startsAt, row}
 use Rattle.network.specs.Holds.{Complete, Spans, TidyRow}
 
 -- a row between the starts a and e, as code reads it
@@ -66,7 +66,7 @@ unfolding links
 links-read h t e p = ap₂ (λ n x. part (h + n + 1) (h + n + 1 + x) t) e (last-read h t e p)
 
 -- and a row of a network's table, the row starts being s and the neighbour numbers l
-pub row-in : (t : List ℕ) (i : ℕ) {h : ℕ} {s l : List ℕ} → h ≡ head t → s ≡ starts h t → l ≡ links h t → rowAt s l i ≡ row t i
+pub row-in : (t : List ℕ) (i : ℕ) {h : ℕ} {s l : List ℕ} → h ≡ startsAt t → s ≡ starts h t → l ≡ links h t → rowAt s l i ≡ row t i
 unfolding row
 row-in t i eh es el = rw (es, el, eh)
 

@@ -2,7 +2,7 @@
 ghost use mathlib.Core.Path.{_≡_};
 ghost use Prim.Native.Nat.{_+_, _^_, _≤_, _<_};
 ghost use lib.ListN.{length};
-ghost use Rattle.network.specs.Layout.{size, needs, starts, links, head, row, lines};
+ghost use Rattle.network.specs.Layout.{size, needs, starts, links, startsAt, row, lines};
 ghost use Rattle.network.specs.Holds.{complete, fairNeeds, twoWay, holds, Complete, Holds};
 use super::Network;
 use super::rows::entry;
@@ -28,9 +28,9 @@ pub fn needs(t: &[u16]) -> &[u16]
 }
 
 // Where a network's row starts begin.
-pub fn head(t: &[u16]) -> usize
+pub fn starts_at(t: &[u16]) -> usize
     requires { ⌜ 1 ≤ length (now t) ⌝ }
-    ensures { λ r. ⌜ (r ≡ head (now (t .entry))) × (r ≤ 65536) ⌝ }
+    ensures { λ r. ⌜ (r ≡ startsAt (now (t .entry))) × (r ≤ 65536) ⌝ }
 {
     1 + size(t)
 }
@@ -112,7 +112,7 @@ pub fn holds(t: &[u16]) -> bool
     if t.len() < 1 {
         return false;
     }
-    let h = head(t);
+    let h = starts_at(t);
     if !complete(t, h) {
         return false;
     }
@@ -127,7 +127,7 @@ pub fn neighbours(t: &[u16], bus: usize) -> &[u16]
     requires { ⌜ Holds (now t) × (bus < size (now t)) ⌝ }
     ensures { λ r. ⌜ now r ≡ row (now (t .entry)) bus ⌝ }
 {
-    let h = head(t);
+    let h = starts_at(t);
     line(starts(t, h), links(t, h), bus)
 }
 
@@ -136,5 +136,5 @@ pub fn lines(t: &[u16]) -> usize
     requires { ⌜ Holds (now t) ⌝ }
     ensures { λ r. ⌜ r ≡ lines (now (t .entry)) ⌝ }
 {
-    links(t, head(t)).len() / 2
+    links(t, starts_at(t)).len() / 2
 }

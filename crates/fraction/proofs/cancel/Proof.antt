@@ -24,9 +24,6 @@ divided a b i h = rw (is-gcdOf i) (due a b (cancel-divided a b h))
 returns : tie.Need-returns
 returns c = due _ _ (cancel-refused _ (omega arith))
 
-gcd-requires : tie.Need-gcd-requires
-gcd-requires c κs = search needs
-
 returns-2 : tie.Need-returns-2
 returns-2 c = divided _ _ (c .gcd .ensures) (omega arith)
 
@@ -37,4 +34,4 @@ div-t7 : tie.Need-div-t7
 div-t7 c = div-t6 c
 
 pub cancel-spec : {M : Type 1} → statement M
-cancel-spec = tie.close (tie.spec returns gcd-requires div-t6 div-t7 returns-2)
+cancel-spec = tie.close (tie.spec returns (λ c κs. search needs) div-t6 div-t7 returns-2)

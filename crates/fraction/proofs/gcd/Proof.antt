@@ -32,26 +32,14 @@ cast-least-2 c = omega (arith, trailing-le 64 (c .before .before .args .y))
 least-requires : tie.Need-least-requires Inv-loop μ-loop
 least-requires c κs = tt
 
-odd-part-requires : tie.Need-odd-part-requires Inv-loop μ-loop
-odd-part-requires c κs = omega arith
-
-odd-part-requires-2 : tie.Need-odd-part-requires-2 Inv-loop μ-loop
-odd-part-requires-2 c κs = omega arith
-
 loop-holds : tie.Need-loop-holds Inv-loop μ-loop
 loop-holds c = record { left = c .before .odd-part .ensures .odd; right = c .odd-part2 .ensures .odd; kept = refl }
 
 gap-requires : tie.Need-gap-requires Inv-loop μ-loop
 gap-requires c κs = tt
 
-odd-part-requires-3 : tie.Need-odd-part-requires-3 Inv-loop μ-loop
-odd-part-requires-3 c κs = omega arith
-
 least-requires-2 : tie.Need-least-requires-2 Inv-loop μ-loop
 least-requires-2 c κs = tt
-
-loop-less : tie.Need-loop-less Inv-loop μ-loop
-loop-less c = omega arith
 
 loop-again : tie.Need-loop-again Inv-loop μ-loop
 loop-again c = turn (c .before .before .before .before .loop .inv) (c .before .before .gap .ensures) (c .before .odd-part3 .ensures) (c .least2 .ensures)
@@ -75,13 +63,13 @@ gcd-spec =
     cast-least
     cast-least-2
     least-requires
-    odd-part-requires
-    odd-part-requires-2
+    (λ c κs. omega arith)
+    (λ c κs. omega arith)
     loop-holds
     gap-requires
-    odd-part-requires-3
+    (λ c κs. omega arith)
     least-requires-2
-    loop-less
+    (λ c. omega arith)
     loop-again
     shl-result
     returns-3)

@@ -15,9 +15,6 @@ due a b e = (e, rw e (lcm-is a b))
 returns : tie.Need-returns
 returns c = due _ _ (sym (lcm-zero _ (omega arith)))
 
-gcd-requires : tie.Need-gcd-requires
-gcd-requires c κs = search needs
-
 div-result : tie.Need-div-result
 div-result c = pos-of-dvd-of-pos (c .gcd .ensures .left) (omega arith)
 
@@ -28,4 +25,4 @@ returns-2 : tie.Need-returns-2
 returns-2 c = due _ _ (lcm-by-gcd (c .gcd .ensures))
 
 pub lcm-spec : {M : Type 1} → statement M
-lcm-spec = tie.close (tie.spec returns gcd-requires div-result mul-result returns-2)
+lcm-spec = tie.close (tie.spec returns (λ c κs. search needs) div-result mul-result returns-2)

@@ -13,9 +13,6 @@ use mathlib.Core.List.{List}
 use Rattle.network.proofs.Network.degree.Statement.{statement}
 use Rattle.network.proofs.Network.degree.Tie as tie
 
-holds-requires : tie.Need-holds-requires
-holds-requires c κs = search needs
-
 returns : tie.Need-returns
 returns c = sym (no-network _ _ _ (failed (c .before .holds .ensures) (c .if1 .taken)))
 
@@ -34,4 +31,4 @@ returns-3 c = ap (λ (r : List ℕ). gives (length r)) (c .neighbours .ensures) 
 pub degree-spec : {M : Type 1} → statement M
 degree-spec =
     tie.close
-    (tie.spec holds-requires returns size-requires returns-2 neighbours-requires returns-3)
+    (tie.spec (λ c κs. search needs) returns size-requires returns-2 neighbours-requires returns-3)

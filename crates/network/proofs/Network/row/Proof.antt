@@ -11,20 +11,11 @@ use mathlib.Core.List.{[]}
 use Rattle.network.proofs.Network.row.Statement.{statement}
 use Rattle.network.proofs.Network.row.Tie as tie
 
-holds-requires : tie.Need-holds-requires
-holds-requires c κs = search needs
-
-slice-aggregate-result : tie.Need-slice-aggregate-result
-slice-aggregate-result c = search needs
-
 returns : tie.Need-returns
 returns c = ap (valuesOr []) (sym (no-network _ _ _ (failed (c .before .before .holds .ensures) (c .before .if1 .taken))))
 
 size-requires : tie.Need-size-requires
 size-requires c κs = let z = holds-facts _ (passed (c .before .holds .ensures) (c .if1 .left)) .complete in omega arith
-
-slice-aggregate-result-2 : tie.Need-slice-aggregate-result-2
-slice-aggregate-result-2 c = search needs
 
 returns-2 : tie.Need-returns-2
 returns-2 c = ap (valuesOr []) (sym (no-bus _ _ _ (passed (c .before .before .before .before .holds .ensures) (c .before .before .before .if1 .left)) (c .before .before .size .ensures .0) (c .before .if2 .taken)))
@@ -39,11 +30,11 @@ pub row-spec : {M : Type 1} → statement M
 row-spec =
     tie.close
     (tie.spec
-    holds-requires
-    slice-aggregate-result
+    (λ c κs. search needs)
+    (λ c. search needs)
     returns
     size-requires
-    slice-aggregate-result-2
+    (λ c. search needs)
     returns-2
     neighbours-requires
     returns-3)

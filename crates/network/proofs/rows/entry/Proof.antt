@@ -2,15 +2,8 @@
 use borrow.Author.Needs.{needs}
 use native.Mathlib.Omega.{arith}
 use Rattle.lists.specs.Lists.{at}
-use borrow.Author.Needs.{needs}
 use Rattle.network.proofs.rows.entry.Statement.{statement}
 use Rattle.network.proofs.rows.entry.Tie as tie
-
-mul-result : tie.Need-mul-result
-mul-result c = search needs
-
-shared-slice-read-result : tie.Need-shared-slice-read-result
-shared-slice-read-result c = search needs
 
 cast-result : tie.Need-cast-result
 cast-result c = omega (arith, c .shared-slice-known .given (c .before .args .i))
@@ -20,4 +13,4 @@ unfolding at
 returns c = (search needs, omega (arith, c .shared-slice-known .given (c .before .args .i)))
 
 pub entry-spec : {M : Type 1} → statement M
-entry-spec = tie.close (tie.spec mul-result shared-slice-read-result cast-result returns)
+entry-spec = tie.close (tie.spec (λ c. search needs) (λ c. search needs) cast-result returns)

@@ -4,7 +4,6 @@ use mathlib.Core.Path.{sym}
 use Rattle.lists.specs.Tests.{and-fails-left}
 use Rattle.network.specs.Cursors.{isAt}
 use borrow.Author.Tests.{lt-ltb, le-ltb}
-use borrow.Author.Needs.{needs}
 use Rattle.network.proofs.rows.is_at.Statement.{statement}
 use Rattle.network.proofs.rows.is_at.Tie as tie
 
@@ -12,12 +11,9 @@ returns : tie.Need-returns
 unfolding isAt
 returns c = sym (and-fails-left _ _ (le-ltb _ _ (c .if1 .taken)))
 
-entry-requires : tie.Need-entry-requires
-entry-requires c κs = search needs
-
 returns-2 : tie.Need-returns-2
 unfolding isAt
 returns-2 c = rw (lt-ltb _ _ (c .before .if1 .left), c .entry .ensures .0)
 
 pub is-at-spec : {M : Type 1} → statement M
-is-at-spec = tie.close (tie.spec returns entry-requires returns-2)
+is-at-spec = tie.close (tie.spec returns (λ c κs. search needs) returns-2)

@@ -1,24 +1,21 @@
 -- `network::rows::matched` meets its contract. Assumes nothing.
 use borrow.Author.Needs.{needs}
 use native.Mathlib.Omega.{arith}
-use mathlib.Core.Path.{_≡_, refl, sym, ap, _∙_}
+use mathlib.Core.Path.{_≡_, refl, sym, ap, _∙_, ap₂}
 use Prim.Native.Nat.{ℕ, _-_, _≤_, _<_}
-use lib.ListN.{length}
+use lib.ListN.{length, getD}
 use Rattle.lists.specs.Lists.{at}
 use Rattle.lists.specs.Tests.{passed, failed}
 use Rattle.network.specs.Limits.{maxBuses, maxDegree}
 use Rattle.network.specs.Rows.{row-lies, row-few}
 use Rattle.network.specs.Holds.{TidyRow, Spans}
 use Rattle.network.specs.Layout.{rowAt}
-use mathlib.Core.Bool.{true}
+use mathlib.Core.Bool.{true, true≢false}
 use mathlib.Core.List.{List}
 use Rattle.network.specs.Cursors.{isAt}
 use Rattle.lists.specs.Below.{allBelow}
 use Rattle.lists.specs.Loops.{allBelow-start, allBelow-more, allBelow-fails, allBelow-done}
 use Rattle.network.proofs.Mirror.{Moved, none-moved, one-moved, unmoved, all-moved, is-there}
-use mathlib.Core.Path.{ap₂}
-use mathlib.Core.Bool.{true≢false}
-use lib.ListN.{getD}
 use Rattle.network.proofs.rows.matched.Statement.{statement}
 use Rattle.network.proofs.rows.matched.Tie as tie
 
@@ -43,17 +40,11 @@ abbrev μ-loop : tie.MeasureT-loop
 loop-holds : tie.Need-loop-holds Inv-loop μ-loop
 loop-holds c = (search needs, allBelow-start _, none-moved _ _)
 
-entry-requires : tie.Need-entry-requires Inv-loop μ-loop
-entry-requires c κs = search needs
-
 element-copy-out-c : tie.Need-element-copy-out-c Inv-loop μ-loop
 element-copy-out-c c = let z = low (c .before .before .before .before .before .before .pre .0) (c .before .loop-test .taken) (c .entry .ensures .0) in omega (arith, c .before .before .before .before .before .before .pre .0 .1)
 
 line-requires : tie.Need-line-requires Inv-loop μ-loop
 line-requires c κs = row-lies _ _ _ (c .before .before .before .before .before .before .before .pre .0 .0) _ (low (c .before .before .before .before .before .before .before .pre .0) (c .before .before .loop-test .taken) (c .before .entry .ensures .0))
-
-is-at-requires : tie.Need-is-at-requires Inv-loop μ-loop
-is-at-requires c κs = search needs
 
 returns : tie.Need-returns Inv-loop μ-loop
 returns c =
@@ -69,12 +60,6 @@ add-cursors c =
 
 element-write-cursors : tie.Need-element-write-cursors Inv-loop μ-loop
 element-write-cursors c = let z = low (c .before .before .before .before .before .before .before .before .before .before .pre .0) (c .before .before .before .before .before .loop-test .taken) (c .before .before .before .before .entry .ensures .0) in omega (arith, c .before .before .before .before .before .before .before .before .before .before .pre .0 .1)
-
-add-k : tie.Need-add-k Inv-loop μ-loop
-add-k c = search needs
-
-loop-less : tie.Need-loop-less Inv-loop μ-loop
-loop-less c = search needs
 
 loop-again : tie.Need-loop-again Inv-loop μ-loop
 unfolding at
@@ -104,14 +89,14 @@ matched-spec =
     Inv-loop
     μ-loop
     loop-holds
-    entry-requires
+    (λ c κs. search needs)
     element-copy-out-c
     line-requires
-    is-at-requires
+    (λ c κs. search needs)
     returns
     add-cursors
     element-write-cursors
-    add-k
-    loop-less
+    (λ c. search needs)
+    (λ c. search needs)
     loop-again
     returns-2)

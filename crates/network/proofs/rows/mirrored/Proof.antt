@@ -1,7 +1,7 @@
 -- `network::rows::mirrored` meets its contract. Assumes nothing.
 use borrow.Author.Needs.{needs}
 use native.Mathlib.Omega.{arith}
-use mathlib.Core.Path.{_≡_, refl, sym, _∙_}
+use mathlib.Core.Path.{_≡_, refl, sym, _∙_, subst₂}
 use Prim.Native.Nat.{ℕ, _-_, _≤_, _<_}
 use lib.ListN.{length}
 use Rattle.lists.specs.Lists.{_∈_}
@@ -17,7 +17,6 @@ use mathlib.Core.Bool.{Bool}
 use mathlib.Core.List.{List}
 use Rattle.network.specs.Cursors.{Matched}
 use Rattle.network.proofs.Mirror.{Marks, none-marked, answered, all-answered, not-refused, marked}
-use mathlib.Core.Path.{subst₂}
 use borrow.Author.Tests.{not-true, not-false}
 use Rattle.network.proofs.rows.mirrored.Statement.{statement}
 use Rattle.network.proofs.rows.mirrored.Tie as tie
@@ -49,12 +48,6 @@ returns c =
     let m = of-row _ (c .before .before .before .line .ensures) (not-true _ (c .if1 .taken)) (c .before .matched .ensures) in
     sym (fails _ (λ w. let sy = mirrored-facts _ _ _ w in not-refused _ _ _ (p .0) sy _ (c .before .before .before .before .loop-test .taken) _ (c .before .before .before .before .before .loop .inv .3 sy) _ m))
 
-add-i : tie.Need-add-i Inv-loop μ-loop
-add-i c = search needs
-
-loop-less : tie.Need-loop-less Inv-loop μ-loop
-loop-less c = search needs
-
 loop-again : tie.Need-loop-again Inv-loop μ-loop
 loop-again c =
     let p = c .before .before .before .before .before .before .before .before .pre in
@@ -80,7 +73,7 @@ mirrored-spec =
     line-requires
     matched-requires
     returns
-    add-i
-    loop-less
+    (λ c. search needs)
+    (λ c. search needs)
     loop-again
     returns-2)

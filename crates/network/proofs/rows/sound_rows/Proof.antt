@@ -1,22 +1,13 @@
 -- `network::rows::sound_rows` meets its contract. Assumes nothing.
 use borrow.Author.Needs.{needs}
 use mathlib.Core.Path.{sym, _∙_}
-use Rattle.lists.specs.Tests.{fails, passed, failed}
-use Rattle.network.specs.Facts.{steps-facts, steps-test, rows-facts}
-use Rattle.network.specs.Facts.{rows-read}
-use Rattle.lists.specs.Tests.{never-both}
-use borrow.Author.Needs.{needs}
+use Rattle.lists.specs.Tests.{fails, passed, failed, never-both}
+use Rattle.network.specs.Facts.{steps-facts, steps-test, rows-facts, rows-read}
 use Rattle.network.proofs.rows.sound_rows.Statement.{statement}
 use Rattle.network.proofs.rows.sound_rows.Tie as tie
 
-entry-requires : tie.Need-entry-requires
-entry-requires c κs = search needs
-
 returns : tie.Need-returns
 returns c = sym (fails _ (λ w. c .if1 .taken (c .before .entry .ensures .0 ∙ rows-facts _ _ _ (c .before .before .before .before .pre .0) (c .before .before .before .before .pre .1) w .first)))
-
-spans-requires : tie.Need-spans-requires
-spans-requires c κs = search needs
 
 returns-2 : tie.Need-returns-2
 returns-2 c = sym (fails _ (λ w. never-both (steps-test _ _ (rows-facts _ _ _ (c .before .before .before .before .before .before .pre .0) (c .before .before .before .before .before .before .pre .1) w .spans .steps)) (failed (c .before .spans .ensures) (c .if2 .taken))))
@@ -30,4 +21,4 @@ returns-3 c = rows-read _ _ _ (c .before .before .before .before .entry .ensures
 pub sound-rows-spec : {M : Type 1} → statement M
 sound-rows-spec =
     tie.close
-    (tie.spec entry-requires returns spans-requires returns-2 tidy-rows-requires returns-3)
+    (tie.spec (λ c κs. search needs) returns (λ c κs. search needs) returns-2 tidy-rows-requires returns-3)

@@ -54,9 +54,6 @@ abbrev μ-loop : tie.MeasureT-loop
 loop-holds : tie.Need-loop-holds Inv-loop μ-loop
 loop-holds c = (search needs, none _ _ _)
 
-entry-requires : tie.Need-entry-requires Inv-loop μ-loop
-entry-requires c κs = search needs
-
 returns : tie.Need-returns Inv-loop μ-loop
 returns c = sym (fails _ (λ w. let z = tidy-facts _ _ _ w .below _ (c .before .before .loop-test .taken) in omega arith))
 
@@ -65,15 +62,6 @@ returns-2 c = sym (fails _ (λ w. tidy-facts _ _ _ w .others _ (c .before .befor
 
 returns-3 : tie.Need-returns-3 Inv-loop μ-loop
 returns-3 c = sym (fails _ (λ w. late (c .before .before .before .before .before .loop .inv .1) (c .before .before .before .entry .ensures .0) (c .before .before .before .before .loop-test .taken) (c .if3 .taken) (tidy-facts _ _ _ w)))
-
-add-least : tie.Need-add-least Inv-loop μ-loop
-add-least c = search needs
-
-add-k : tie.Need-add-k Inv-loop μ-loop
-add-k c = search needs
-
-loop-less : tie.Need-loop-less Inv-loop μ-loop
-loop-less c = search needs
 
 loop-again : tie.Need-loop-again Inv-loop μ-loop
 loop-again c = (search needs, more (c .before .before .before .before .before .loop .inv .1) (c .before .before .before .entry .ensures .0) (c .before .before .if1 .left) (c .before .if2 .left) (c .if3 .left))
@@ -88,12 +76,12 @@ tidy-spec =
     Inv-loop
     μ-loop
     loop-holds
-    entry-requires
+    (λ c κs. search needs)
     returns
     returns-2
     returns-3
-    add-least
-    add-k
-    loop-less
+    (λ c. search needs)
+    (λ c. search needs)
+    (λ c. search needs)
     loop-again
     returns-4)

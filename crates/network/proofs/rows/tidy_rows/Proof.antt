@@ -24,18 +24,9 @@ loop-holds c = (search needs, allBelow-start _)
 line-requires : tie.Need-line-requires Inv-loop μ-loop
 line-requires c κs = row-lies _ _ _ (c .before .before .before .before .pre) _ (c .loop-test .taken)
 
-tidy-requires : tie.Need-tidy-requires Inv-loop μ-loop
-tidy-requires c κs = search needs
-
 returns : tie.Need-returns Inv-loop μ-loop
 unfolding tidyRows
 returns c = sym (allBelow-fails _ _ _ (c .before .before .before .loop-test .taken) (failed (c .before .tidy .ensures ∙ ap (tidyRow _ _) (c .before .before .line .ensures)) (c .if1 .taken)))
-
-add-i : tie.Need-add-i Inv-loop μ-loop
-add-i c = search needs
-
-loop-less : tie.Need-loop-less Inv-loop μ-loop
-loop-less c = search needs
 
 loop-again : tie.Need-loop-again Inv-loop μ-loop
 loop-again c = (search needs, allBelow-more _ _ (c .before .before .before .before .loop .inv .1) (passed (c .before .tidy .ensures ∙ ap (tidyRow _ _) (c .before .before .line .ensures)) (c .if1 .left)))
@@ -52,9 +43,9 @@ tidy-rows-spec =
     μ-loop
     loop-holds
     line-requires
-    tidy-requires
+    (λ c κs. search needs)
     returns
-    add-i
-    loop-less
+    (λ c. search needs)
+    (λ c. search needs)
     loop-again
     returns-2)

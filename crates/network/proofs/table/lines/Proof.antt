@@ -1,19 +1,15 @@
 -- `network::table::lines` meets its contract. Assumes nothing.
 use borrow.Author.Needs.{needs}
-use Rattle.network.specs.Layout.{links, head}
+use Rattle.network.specs.Layout.{links}
 use Rattle.network.specs.Lines.{half}
-use borrow.Author.Needs.{needs}
 use Rattle.network.proofs.table.lines.Statement.{statement}
 use Rattle.network.proofs.table.lines.Tie as tie
 
-head-requires : tie.Need-head-requires
-head-requires c κs = search needs
-
 links-requires : tie.Need-links-requires
-links-requires c κs = rw (c .head .ensures .0) (c .before .before .pre .complete)
+links-requires c κs = rw (c .starts-at .ensures .0) (c .before .before .pre .complete)
 
 returns : tie.Need-returns
-returns c = rw (c .links .ensures, c .before .head .ensures .0) (half _ (c .before .before .before .pre))
+returns c = rw (c .links .ensures, c .before .starts-at .ensures .0) (half _ (c .before .before .before .pre))
 
 pub lines-spec : {M : Type 1} → statement M
-lines-spec = tie.close (tie.spec head-requires links-requires returns)
+lines-spec = tie.close (tie.spec (λ c κs. search needs) links-requires returns)

@@ -2,25 +2,21 @@
 use borrow.Author.Needs.{needs}
 use mathlib.Core.Path.{_∙_}
 use Rattle.network.specs.Rows.{row-lies, row-in}
-use borrow.Author.Needs.{needs}
 use Rattle.network.proofs.table.neighbours.Statement.{statement}
 use Rattle.network.proofs.table.neighbours.Tie as tie
 
-head-requires : tie.Need-head-requires
-head-requires c κs = search needs
-
 starts-requires : tie.Need-starts-requires
-starts-requires c κs = rw (c .head .ensures .0) (c .before .before .pre .0 .complete)
+starts-requires c κs = rw (c .starts-at .ensures .0) (c .before .before .pre .0 .complete)
 
 links-requires : tie.Need-links-requires
-links-requires c κs = rw (c .before .head .ensures .0) (c .before .before .before .pre .0 .complete)
+links-requires c κs = rw (c .before .starts-at .ensures .0) (c .before .before .before .pre .0 .complete)
 
 returns : tie.Need-returns
-returns c = c .line .ensures ∙ row-in _ _ (c .before .before .before .head .ensures .0) (c .before .before .starts .ensures) (c .before .links .ensures)
+returns c = c .line .ensures ∙ row-in _ _ (c .before .before .before .starts-at .ensures .0) (c .before .before .starts .ensures) (c .before .links .ensures)
 
 line-requires : tie.Need-line-requires
-line-requires c κs = rw (c .before .starts .ensures, c .links .ensures, c .before .before .head .ensures .0) (row-lies _ _ _ (c .before .before .before .before .pre .0 .rows .spans) _ (c .before .before .before .before .pre .1))
+line-requires c κs = rw (c .before .starts .ensures, c .links .ensures, c .before .before .starts-at .ensures .0) (row-lies _ _ _ (c .before .before .before .before .pre .0 .rows .spans) _ (c .before .before .before .before .pre .1))
 
 pub neighbours-spec : {M : Type 1} → statement M
 neighbours-spec =
-    tie.close (tie.spec head-requires starts-requires links-requires line-requires returns)
+    tie.close (tie.spec (λ c κs. search needs) starts-requires links-requires line-requires returns)

@@ -3,11 +3,8 @@ use borrow.Author.Needs.{needs}
 use Rattle.network.proofs.table.size.Statement.{statement}
 use Rattle.network.proofs.table.size.Tie as tie
 
-entry-requires : tie.Need-entry-requires
-entry-requires c κs = search needs
-
 returns : tie.Need-returns
 returns c = c .entry .ensures
 
 pub size-spec : {M : Type 1} → statement M
-size-spec = tie.close (tie.spec entry-requires returns)
+size-spec = tie.close (tie.spec (λ c κs. search needs) returns)

@@ -6,15 +6,6 @@ use Rattle.network.specs.Facts.{rows-facts, room-read, two-way-fails, tw
 use Rattle.network.proofs.table.two_way.Statement.{statement}
 use Rattle.network.proofs.table.two_way.Tie as tie
 
-size-requires : tie.Need-size-requires
-size-requires c κs = search needs
-
-starts-requires : tie.Need-starts-requires
-starts-requires c κs = search needs
-
-links-requires : tie.Need-links-requires
-links-requires c κs = search needs
-
 sound-rows-requires : tie.Need-sound-rows-requires
 sound-rows-requires c κs = room-read _ _ (c .before .before .size .ensures .0) (c .before .starts .ensures) (c .links .ensures) (c .before .before .before .before .pre)
 
@@ -34,9 +25,9 @@ pub two-way-spec : {M : Type 1} → statement M
 two-way-spec =
     tie.close
     (tie.spec
-    size-requires
-    starts-requires
-    links-requires
+    (λ c κs. search needs)
+    (λ c κs. search needs)
+    (λ c κs. search needs)
     sound-rows-requires
     returns
     mirrored-requires
