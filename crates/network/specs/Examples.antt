@@ -78,24 +78,20 @@ path-lines : lines path ≡ 2
 unfolding path lines sumBelow holds twoWay complete within fairNeeds soundRows neverFall shortRows tidyRows tidyRow tidy mirrored rowAt needs starts links row at allBelow
 path-lines = refl
 
-degrees : (degreeOutcome path 0 ∷ degreeOutcome path 1 ∷ degreeOutcome path 2 ∷ degreeOutcome path 3 ∷ []) ≡ gives 1 ∷ gives 2 ∷ gives 1 ∷ refuses 13 ∷ []
+path-answers :
+    (map (degreeOutcome path) (0 ∷ 1 ∷ 2 ∷ 3 ∷ []) ≡ gives 1 ∷ gives 2 ∷ gives 1 ∷ refuses 13 ∷ [])
+    × (map (rowOutcome path) (0 ∷ 1 ∷ 2 ∷ 3 ∷ []) ≡ (1 ∷ []) ∷ (0 ∷ 2 ∷ []) ∷ (1 ∷ []) ∷ [] ∷ [])
 unfolding path holds twoWay complete within fairNeeds soundRows neverFall shortRows tidyRows tidyRow tidy mirrored rowAt needs starts links row at allBelow
-degrees = refl
-
-rows : (rowOutcome path 0 ∷ rowOutcome path 1 ∷ rowOutcome path 2 ∷ rowOutcome path 3 ∷ []) ≡ (1 ∷ []) ∷ (0 ∷ 2 ∷ []) ∷ (1 ∷ []) ∷ [] ∷ []
-unfolding path holds twoWay complete within fairNeeds soundRows neverFall shortRows tidyRows tidyRow tidy mirrored rowAt needs starts links row at allBelow
-rows = refl
-
--- an empty slice, and a table with one mirror missing: 11, before any word on the bus
-no-networks : (degreeOutcome [] 0 ∷ degreeOutcome one-sided 0 ∷ degreeOutcome one-sided 7 ∷ []) ≡ refuses 11 ∷ refuses 11 ∷ refuses 11 ∷ []
-unfolding one-sided holds twoWay complete within fairNeeds soundRows neverFall shortRows tidyRows tidyRow tidy mirrored rowAt needs starts links row at allBelow
-no-networks = refl
-
-no-rows : (rowOutcome [] 0 ∷ rowOutcome one-sided 0 ∷ []) ≡ [] ∷ [] ∷ []
-unfolding one-sided holds twoWay complete within fairNeeds soundRows neverFall shortRows tidyRows tidyRow tidy mirrored rowAt needs starts links row at allBelow
-no-rows = refl
+path-answers = (refl, refl)
 
 -- a longer tail
 same-answers : (degreeOutcome (path ++ 9 ∷ 9 ∷ []) 1 ≡ gives 2) × (rowOutcome (path ++ 9 ∷ 9 ∷ []) 1 ≡ 0 ∷ 2 ∷ [])
 unfolding path holds twoWay complete within fairNeeds soundRows neverFall shortRows tidyRows tidyRow tidy mirrored rowAt needs starts links row at allBelow
 same-answers = (refl, refl)
+
+-- an empty slice, and a table with a mirror missing: 11, before any word on the bus
+no-answers :
+    (map (degreeOutcome []) (0 ∷ 7 ∷ []) ≡ refuses 11 ∷ refuses 11 ∷ []) × (map (rowOutcome []) (0 ∷ 7 ∷ []) ≡ [] ∷ [] ∷ [])
+    × (map (degreeOutcome one-sided) (0 ∷ 7 ∷ []) ≡ refuses 11 ∷ refuses 11 ∷ []) × (map (rowOutcome one-sided) (0 ∷ 7 ∷ []) ≡ [] ∷ [] ∷ [])
+unfolding one-sided holds twoWay complete within fairNeeds soundRows neverFall shortRows tidyRows tidyRow tidy mirrored rowAt needs starts links row at allBelow
+no-answers = (refl, refl, refl, refl)

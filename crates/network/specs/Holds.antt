@@ -42,6 +42,7 @@ shortRows n s = allBelow n (λ i. leb (at s (i + 1)) (at s i + maxDegree))
 unfoldable pub tidy : ℕ → ℕ → List ℕ → ℕ → Bool
 tidy n i r k = ltb (at r k) n && not (eqb (at r k) i) && allBelow k (λ j. ltb (at r j) (at r k))
 
+-- so are all entries of a row; so are all rows
 unfoldable pub tidyRow : ℕ → ℕ → List ℕ → Bool
 tidyRow n i r = allBelow (length r) (tidy n i r)
 
@@ -56,7 +57,7 @@ soundRows n s l = eqb (at s 0) 0 && neverFall n s && shortRows n s && tidyRows n
 unfoldable pub mirrored : ℕ → List ℕ → List ℕ → Bool
 mirrored n s l = allBelow n (λ i. allBelow n (λ j. same (has j (rowAt s l i)) (has i (rowAt s l j))))
 
--- both of a table whose row starts begin at h
+-- the rows of a table are sound and mirrored
 unfoldable pub twoWay : ℕ → List ℕ → Bool
 twoWay h t = soundRows (size t) (starts h t) (links h t) && mirrored (size t) (starts h t) (links h t)
 

@@ -11,6 +11,22 @@ use table::holds;
 use table::neighbours;
 use table::size;
 
+// The limits by name, for callers that cannot cite the constants of `Network`.
+pub struct Limits {
+    pub buses: usize,
+    pub degree: usize,
+    pub need: usize,
+    pub lines: usize,
+    pub entries: usize,
+    pub bytes: usize,
+}
+
+// How many neighbours a bus has, or why it is not said.
+pub enum Degree {
+    Is(usize),
+    Refused(Refusal),
+}
+
 pub struct Network;
 
 impl Network {
@@ -31,25 +47,7 @@ impl Network {
 
     // Bytes of a network file.
     pub const BYTES: usize = 2 + Network::BUSES + 2 + 4 * Network::LINES;
-}
 
-// The limits by name, for callers that cannot cite the constants.
-pub struct Limits {
-    pub buses: usize,
-    pub degree: usize,
-    pub need: usize,
-    pub lines: usize,
-    pub entries: usize,
-    pub bytes: usize,
-}
-
-// How many neighbours a bus has, or why it is not said.
-pub enum Degree {
-    Is(usize),
-    Refused(Refusal),
-}
-
-impl Network {
     pub fn limits() -> Limits
         ensures { λ r. ⌜ (r .buses ≡ maxBuses) × (r .degree ≡ maxDegree) × (r .need ≡ maxNeed) ⌝ }
         ensures { λ r. ⌜ (r .lines ≡ maxLines) × (r .entries ≡ maxEntries) × (r .bytes ≡ maxBytes) ⌝ }
@@ -64,29 +62,29 @@ impl Network {
         }
     }
 
-    // The part of the lent table that holds a bus's neighbours; the empty part where `degree` refuses.
-    pub fn row(lent: &[u16], bus: usize) -> &[u16]
-        ensures { λ r. ⌜ now r ≡ rowOutcome (now (lent .entry)) bus ⌝ }
-    {
-        if !holds(lent) {
-            return &lent[..0];
-        }
-        if size(lent) <= bus {
-            return &lent[..0];
-        }
-        neighbours(lent, bus)
-    }
-
     // How many neighbours a bus of the lent table has.
-    pub fn degree(lent: &[u16], bus: usize) -> Degree
-        ensures { λ r. ⌜ degreeSays r ≡ degreeOutcome (now (lent .entry)) bus ⌝ }
+    pub fn degree(table: &[u16], bus: usize) -> Degree
+        ensures { λ r. ⌜ degreeSays r ≡ degreeOutcome (now (table .entry)) bus ⌝ }
     {
-        if !holds(lent) {
+        if !holds(table) {
             return Degree::Refused(Refusal::NoNetwork);
         }
-        if size(lent) <= bus {
+        if size(table) <= bus {
             return Degree::Refused(Refusal::NoSuchBus);
         }
-        Degree::Is(neighbours(lent, bus).len())
+        Degree::Is(neighbours(table, bus).len())
+    }
+
+    // The part of the lent table that holds a bus's neighbours; the empty part where `degree` refuses.
+    pub fn row(table: &[u16], bus: usize) -> &[u16]
+        ensures { λ r. ⌜ now r ≡ rowOutcome (now (table .entry)) bus ⌝ }
+    {
+        if !holds(table) {
+            return &table[..0];
+        }
+        if size(table) <= bus {
+            return &table[..0];
+        }
+        neighbours(table, bus)
     }
 }

@@ -1,4 +1,4 @@
-// Rows of neighbour numbers: row i is the part of l from start i up to start i + 1, s being the starts. Nothing here knows of a table.
+// Rows of neighbour numbers: the row of a bus is the part of the links from its start up to the next one's. Nothing here knows of a table.
 ghost use mathlib.Core.Path.{_≡_};
 ghost use mathlib.Core.Bool.{_&&_};
 ghost use Prim.Native.Nat.{_+_, _≤_, _<_};
@@ -10,145 +10,152 @@ ghost use Rattle.network.specs.Holds.{neverFall, shortRows, tidyRow, tid
 ghost use Rattle.network.specs.Cursors.{isAt, Matched};
 use super::Network;
 
-// Entry i of l.
-pub fn entry(l: &[u16], i: usize) -> usize
-    requires { ⌜ i < length (now l) ⌝ }
-    ensures { λ r. ⌜ (r ≡ at (now (l .entry)) i) × (r < 65536) ⌝ }
+// Entry i of a list.
+pub fn entry(list: &[u16], i: usize) -> usize
+    requires { ⌜ i < length (now list) ⌝ }
+    ensures { λ r. ⌜ (r ≡ at (now (list .entry)) i) × (r < 65536) ⌝ }
 {
-    l[i] as usize
+    list[i] as usize
 }
 
-// Whether none of the n rows that start at s ends before it starts, or is too long.
-fn spans(s: &[u16], n: usize) -> bool
-    requires { ⌜ n < length (now s) ⌝ }
-    ensures { λ b. ⌜ b ≡ (neverFall n (now (s .entry)) && shortRows n (now (s .entry))) ⌝ }
+// Whether none of n rows ends before it starts, or is too long.
+fn spans(starts: &[u16], n: usize) -> bool
+    requires { ⌜ n < length (now starts) ⌝ }
+    ensures { λ b. ⌜ b ≡ (neverFall n (now (starts .entry)) && shortRows n (now (starts .entry))) ⌝ }
 {
-    let mut i = 0;
-    while i < n {
-        let a = entry(s, i);
-        let e = entry(s, i + 1);
-        if e < a {
+    let mut bus = 0;
+    while bus < n {
+        let start = entry(starts, bus);
+        let end = entry(starts, bus + 1);
+        if end < start {
             return false;
         }
-        if a + Network::LINES_AT_BUS < e {
+        if start + Network::LINES_AT_BUS < end {
             return false;
         }
-        i += 1;
+        bus += 1;
     }
     true
 }
 
-// Whether r may be row i of n: its numbers are below n, never i, and ascend.
-fn tidy(r: &[u16], n: usize, i: usize) -> bool
-    ensures { λ b. ⌜ b ≡ tidyRow n i (now (r .entry)) ⌝ }
+// Whether this may be the row of a bus among n: its numbers are below n, never the bus, and ascend.
+fn tidy(row: &[u16], n: usize, bus: usize) -> bool
+    ensures { λ b. ⌜ b ≡ tidyRow n bus (now (row .entry)) ⌝ }
 {
     let mut least = 0;
     let mut k = 0;
-    while k < r.len() {
-        let j = entry(r, k);
-        if n <= j {
+    while k < row.len() {
+        let neighbour = entry(row, k);
+        if n <= neighbour {
             return false;
         }
-        if j == i {
+        if neighbour == bus {
             return false;
         }
-        if j < least {
+        if neighbour < least {
             return false;
         }
-        least = j + 1;
+        least = neighbour + 1;
         k += 1;
     }
     true
 }
 
-// Row i of the rows that start at s among l.
-pub fn line<'a>(s: &[u16], l: &'a [u16], i: usize) -> &'a [u16]
-    requires { ⌜ (i + 1 < length (now s)) × (at (now s) i ≤ at (now s) (i + 1)) × (at (now s) (i + 1) ≤ length (now l)) ⌝ }
-    ensures { λ r. ⌜ now r ≡ rowAt (now (s .entry)) (now (l .entry)) i ⌝ }
+// The row of a bus.
+pub fn row_at<'a>(starts: &[u16], links: &'a [u16], bus: usize) -> &'a [u16]
+    requires { ⌜ (bus + 1 < length (now starts)) × (at (now starts) bus ≤ at (now starts) (bus + 1)) × (at (now starts) (bus + 1) ≤ length (now links)) ⌝ }
+    ensures { λ r. ⌜ now r ≡ rowAt (now (starts .entry)) (now (links .entry)) bus ⌝ }
 {
-    let a = entry(s, i);
-    let e = entry(s, i + 1);
-    &l[a..e]
+    let start = entry(starts, bus);
+    let end = entry(starts, bus + 1);
+    &links[start..end]
 }
 
-// Whether each of the n rows is tidy.
-fn tidy_rows(s: &[u16], l: &[u16], n: usize) -> bool
-    requires { ⌜ Spans n (now s) (now l) ⌝ }
-    ensures { λ b. ⌜ b ≡ tidyRows n (now (s .entry)) (now (l .entry)) ⌝ }
+// Whether each of n rows is tidy.
+fn tidy_rows(starts: &[u16], links: &[u16], n: usize) -> bool
+    requires { ⌜ Spans n (now starts) (now links) ⌝ }
+    ensures { λ b. ⌜ b ≡ tidyRows n (now (starts .entry)) (now (links .entry)) ⌝ }
 {
-    let mut i = 0;
-    while i < n {
-        if !tidy(line(s, l, i), n, i) {
+    let mut bus = 0;
+    while bus < n {
+        if !tidy(row_at(starts, links, bus), n, bus) {
             return false;
         }
-        i += 1;
+        bus += 1;
     }
     true
 }
 
-// Whether n rows start at s among l as the rows of a line table do.
-pub fn sound_rows(s: &[u16], l: &[u16], n: usize) -> bool
-    requires { ⌜ (n < length (now s)) × (at (now s) n ≤ length (now l)) ⌝ }
-    ensures { λ b. ⌜ b ≡ soundRows n (now (s .entry)) (now (l .entry)) ⌝ }
+// Whether n rows are as the rows of a line table must be, but for their mirrors.
+pub fn sound_rows(starts: &[u16], links: &[u16], n: usize) -> bool
+    requires { ⌜ (n < length (now starts)) × (at (now starts) n ≤ length (now links)) ⌝ }
+    ensures { λ b. ⌜ b ≡ soundRows n (now (starts .entry)) (now (links .entry)) ⌝ }
 {
-    if entry(s, 0) != 0 {
+    if entry(starts, 0) != 0 {
         return false;
     }
-    if !spans(s, n) {
+    if !spans(starts, n) {
         return false;
     }
-    tidy_rows(s, l, n)
+    tidy_rows(starts, links, n)
 }
 
-// Whether row r has an entry c, and it is i.
-fn is_at(r: &[u16], c: u8, i: usize) -> bool
-    ensures { λ b. ⌜ b ≡ isAt (now (r .entry)) c i ⌝ }
+// Whether the row has an entry at the cursor, and it is the bus.
+fn is_at(row: &[u16], cursor: u8, bus: usize) -> bool
+    ensures { λ b. ⌜ b ≡ isAt (now (row .entry)) cursor bus ⌝ }
 {
-    let k = c as usize;
-    if r.len() <= k {
+    let k = cursor as usize;
+    if row.len() <= k {
         return false;
     }
-    entry(r, k) == i
+    entry(row, k) == bus
 }
 
-// Whether each row that r names has i at its cursor. Those cursors then move on.
+// Whether each neighbour's row has the bus at its cursor. Those cursors then move on.
 fn matched(
-    s: &[u16],
-    l: &[u16],
+    starts: &[u16],
+    links: &[u16],
     n: usize,
-    i: usize,
-    r: &[u16],
+    bus: usize,
+    row: &[u16],
     cursors: &mut [u8; Network::BUSES],
 ) -> bool
-    requires { ⌜ Spans n (now s) (now l) × (n ≤ maxBuses) × TidyRow n i (now r) ⌝ }
+    requires { ⌜ Spans n (now starts) (now links) × (n ≤ maxBuses) × TidyRow n bus (now row) ⌝ }
     requires { ⌜ length (now cursors) ≡ maxBuses ⌝ }
-    ensures { λ b. ⌜ Matched (now (s .entry)) (now (l .entry)) i (now (r .entry)) (now (cursors .entry)) b (now (cursors .exit)) ⌝ }
+    ensures { λ b. ⌜ Matched (now (starts .entry)) (now (links .entry)) bus (now (row .entry)) (now (cursors .entry)) b (now (cursors .exit)) ⌝ }
 {
     let mut k = 0;
-    while k < r.len() {
-        let j = entry(r, k);
-        let c = cursors[j];
-        if !is_at(line(s, l, j), c, i) {
+    while k < row.len() {
+        let neighbour = entry(row, k);
+        let cursor = cursors[neighbour];
+        if !is_at(row_at(starts, links, neighbour), cursor, bus) {
             return false;
         }
-        cursors[j] = c + 1;
+        cursors[neighbour] = cursor + 1;
         k += 1;
     }
     true
 }
 
-// Whether j is in row i exactly if i is in row j. Rows ascend, so that row j's cursor stands at i when row i is reached.
-pub fn mirrored(s: &[u16], l: &[u16], n: usize) -> bool
-    requires { ⌜ SoundRows n (now s) (now l) × (n ≤ maxBuses) ⌝ }
-    ensures { λ b. ⌜ b ≡ mirrored n (now (s .entry)) (now (l .entry)) ⌝ }
+// Whether every neighbour is mirrored. Rows ascend, so that when a bus is reached, the cursor of each neighbour's row stands at it.
+pub fn mirrored(starts: &[u16], links: &[u16], n: usize) -> bool
+    requires { ⌜ SoundRows n (now starts) (now links) × (n ≤ maxBuses) ⌝ }
+    ensures { λ b. ⌜ b ≡ mirrored n (now (starts .entry)) (now (links .entry)) ⌝ }
 {
     let mut cursors = [0u8; Network::BUSES];
-    let mut i = 0;
-    while i < n {
-        if !matched(s, l, n, i, line(s, l, i), &mut cursors) {
+    let mut bus = 0;
+    while bus < n {
+        if !matched(
+            starts,
+            links,
+            n,
+            bus,
+            row_at(starts, links, bus),
+            &mut cursors,
+        ) {
             return false;
         }
-        i += 1;
+        bus += 1;
     }
     true
 }

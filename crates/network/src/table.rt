@@ -6,135 +6,135 @@ ghost use Rattle.network.specs.Layout.{size, needs, starts, links, start
 ghost use Rattle.network.specs.Holds.{complete, fairNeeds, twoWay, holds, Complete, Holds};
 use super::Network;
 use super::rows::entry;
-use super::rows::line;
 use super::rows::mirrored;
+use super::rows::row_at;
 use super::rows::sound_rows;
 
 // How many buses.
-pub fn size(t: &[u16]) -> usize
-    requires { ⌜ 1 ≤ length (now t) ⌝ }
-    ensures { λ r. ⌜ (r ≡ size (now (t .entry))) × (r < 65536) ⌝ }
+pub fn size(table: &[u16]) -> usize
+    requires { ⌜ 1 ≤ length (now table) ⌝ }
+    ensures { λ r. ⌜ (r ≡ size (now (table .entry))) × (r < 65536) ⌝ }
 {
-    entry(t, 0)
+    entry(table, 0)
 }
 
 // The needs.
-pub fn needs(t: &[u16]) -> &[u16]
-    requires { ⌜ 1 + size (now t) ≤ length (now t) ⌝ }
-    ensures { λ r. ⌜ now r ≡ needs (now (t .entry)) ⌝ }
+pub fn needs(table: &[u16]) -> &[u16]
+    requires { ⌜ 1 + size (now table) ≤ length (now table) ⌝ }
+    ensures { λ r. ⌜ now r ≡ needs (now (table .entry)) ⌝ }
 {
-    let n = size(t);
-    &t[1..1 + n]
+    let n = size(table);
+    &table[1..1 + n]
 }
 
 // Where a network's row starts begin.
-pub fn starts_at(t: &[u16]) -> usize
-    requires { ⌜ 1 ≤ length (now t) ⌝ }
-    ensures { λ r. ⌜ (r ≡ startsAt (now (t .entry))) × (r ≤ 65536) ⌝ }
+pub fn starts_at(table: &[u16]) -> usize
+    requires { ⌜ 1 ≤ length (now table) ⌝ }
+    ensures { λ r. ⌜ (r ≡ startsAt (now (table .entry))) × (r ≤ 65536) ⌝ }
 {
-    1 + size(t)
+    1 + size(table)
 }
 
 // The row starts.
-pub fn starts(t: &[u16], h: usize) -> &[u16]
-    requires { ⌜ Complete h (now t) ⌝ }
-    ensures { λ r. ⌜ now r ≡ starts h (now (t .entry)) ⌝ }
+pub fn starts(table: &[u16], h: usize) -> &[u16]
+    requires { ⌜ Complete h (now table) ⌝ }
+    ensures { λ r. ⌜ now r ≡ starts h (now (table .entry)) ⌝ }
 {
-    let n = size(t);
-    &t[h..h + n + 1]
+    let n = size(table);
+    &table[h..h + n + 1]
 }
 
 // The neighbour numbers.
-pub fn links(t: &[u16], h: usize) -> &[u16]
-    requires { ⌜ Complete h (now t) ⌝ }
-    ensures { λ r. ⌜ now r ≡ links h (now (t .entry)) ⌝ }
+pub fn links(table: &[u16], h: usize) -> &[u16]
+    requires { ⌜ Complete h (now table) ⌝ }
+    ensures { λ r. ⌜ now r ≡ links h (now (table .entry)) ⌝ }
 {
-    let n = size(t);
-    let a = h + n + 1;
-    let e = a + entry(t, h + n);
-    &t[a..e]
+    let n = size(table);
+    let first = h + n + 1;
+    let end = first + entry(table, h + n);
+    &table[first..end]
 }
 
-// Whether t has all entries of its table, and no more buses than a network may have.
-fn complete(t: &[u16], h: usize) -> bool
-    requires { ⌜ (1 ≤ length (now t)) × (h < 2 ^ 32) ⌝ }
-    ensures { λ b. ⌜ b ≡ complete h (now (t .entry)) ⌝ }
+// Whether the slice has all entries of its table, and no more buses than a network may have.
+fn complete(table: &[u16], h: usize) -> bool
+    requires { ⌜ (1 ≤ length (now table)) × (h < 2 ^ 32) ⌝ }
+    ensures { λ b. ⌜ b ≡ complete h (now (table .entry)) ⌝ }
 {
-    let n = size(t);
+    let n = size(table);
     if n < 1 {
         return false;
     }
     if Network::BUSES < n {
         return false;
     }
-    if t.len() < h + n + 1 {
+    if table.len() < h + n + 1 {
         return false;
     }
-    h + n + 1 + entry(t, h + n) <= t.len()
+    h + n + 1 + entry(table, h + n) <= table.len()
 }
 
 // Whether every need is one that a bus may have.
-fn fair(q: &[u16]) -> bool
-    ensures { λ b. ⌜ b ≡ fairNeeds (now (q .entry)) ⌝ }
+fn fair(needs: &[u16]) -> bool
+    ensures { λ b. ⌜ b ≡ fairNeeds (now (needs .entry)) ⌝ }
 {
-    let mut i = 0;
-    while i < q.len() {
-        let k = entry(q, i);
-        if k < 1 {
+    let mut bus = 0;
+    while bus < needs.len() {
+        let need = entry(needs, bus);
+        if need < 1 {
             return false;
         }
-        if Network::NEED < k {
+        if Network::NEED < need {
             return false;
         }
-        i += 1;
+        bus += 1;
     }
     true
 }
 
-// Whether the rows of t are sound, and every neighbour is mirrored.
-fn two_way(t: &[u16], h: usize) -> bool
-    requires { ⌜ Complete h (now t) ⌝ }
-    ensures { λ b. ⌜ b ≡ twoWay h (now (t .entry)) ⌝ }
+// Whether the rows are sound, and every neighbour is mirrored.
+fn two_way(table: &[u16], h: usize) -> bool
+    requires { ⌜ Complete h (now table) ⌝ }
+    ensures { λ b. ⌜ b ≡ twoWay h (now (table .entry)) ⌝ }
 {
-    let n = size(t);
-    let s = starts(t, h);
-    let l = links(t, h);
-    if !sound_rows(s, l, n) {
+    let n = size(table);
+    let starts = starts(table, h);
+    let links = links(table, h);
+    if !sound_rows(starts, links, n) {
         return false;
     }
-    mirrored(s, l, n)
+    mirrored(starts, links, n)
 }
 
-// Whether t holds a network.
-pub fn holds(t: &[u16]) -> bool
-    ensures { λ b. ⌜ b ≡ holds (now (t .entry)) ⌝ }
+// Whether the slice holds a network.
+pub fn holds(table: &[u16]) -> bool
+    ensures { λ b. ⌜ b ≡ holds (now (table .entry)) ⌝ }
 {
-    if t.len() < 1 {
+    if table.len() < 1 {
         return false;
     }
-    let h = starts_at(t);
-    if !complete(t, h) {
+    let h = starts_at(table);
+    if !complete(table, h) {
         return false;
     }
-    if !fair(needs(t)) {
+    if !fair(needs(table)) {
         return false;
     }
-    two_way(t, h)
+    two_way(table, h)
 }
 
 // The neighbours of a bus.
-pub fn neighbours(t: &[u16], bus: usize) -> &[u16]
-    requires { ⌜ Holds (now t) × (bus < size (now t)) ⌝ }
-    ensures { λ r. ⌜ now r ≡ row (now (t .entry)) bus ⌝ }
+pub fn neighbours(table: &[u16], bus: usize) -> &[u16]
+    requires { ⌜ Holds (now table) × (bus < size (now table)) ⌝ }
+    ensures { λ r. ⌜ now r ≡ row (now (table .entry)) bus ⌝ }
 {
-    let h = starts_at(t);
-    line(starts(t, h), links(t, h), bus)
+    let h = starts_at(table);
+    row_at(starts(table, h), links(table, h), bus)
 }
 
-// How many lines a network has: half as many as neighbour numbers.
-pub fn lines(t: &[u16]) -> usize
-    requires { ⌜ Holds (now t) ⌝ }
-    ensures { λ r. ⌜ r ≡ lines (now (t .entry)) ⌝ }
+// How many lines: half as many as neighbour numbers.
+pub fn lines(table: &[u16]) -> usize
+    requires { ⌜ Holds (now table) ⌝ }
+    ensures { λ r. ⌜ r ≡ lines (now (table .entry)) ⌝ }
 {
-    links(t, starts_at(t)).len() / 2
+    links(table, starts_at(table)).len() / 2
 }

@@ -40,22 +40,22 @@ abbrev μ-loop : tie.MeasureT-loop
 loop-holds : tie.Need-loop-holds Inv-loop μ-loop
 loop-holds c = (search needs, allBelow-start _, none-moved _ _)
 
-element-copy-out-c : tie.Need-element-copy-out-c Inv-loop μ-loop
-element-copy-out-c c = let z = low (c .before .before .before .before .before .before .pre .0) (c .before .loop-test .taken) (c .entry .ensures .0) in omega (arith, c .before .before .before .before .before .before .pre .0 .1)
+element-copy-out-cursor : tie.Need-element-copy-out-cursor Inv-loop μ-loop
+element-copy-out-cursor c = let z = low (c .before .before .before .before .before .before .pre .0) (c .before .loop-test .taken) (c .entry .ensures .0) in omega (arith, c .before .before .before .before .before .before .pre .0 .1)
 
-line-requires : tie.Need-line-requires Inv-loop μ-loop
-line-requires c κs = row-lies _ _ _ (c .before .before .before .before .before .before .before .pre .0 .0) _ (low (c .before .before .before .before .before .before .before .pre .0) (c .before .before .loop-test .taken) (c .before .entry .ensures .0))
+row-at-requires : tie.Need-row-at-requires Inv-loop μ-loop
+row-at-requires c κs = row-lies _ _ _ (c .before .before .before .before .before .before .before .pre .0 .0) _ (low (c .before .before .before .before .before .before .before .pre .0) (c .before .before .loop-test .taken) (c .before .entry .ensures .0))
 
 returns : tie.Need-returns Inv-loop μ-loop
 returns c =
     let b = c .before .before .before .before .before .loop-test .taken in
     let inv = c .before .before .before .before .before .before .loop .inv in
-    let f = failed (c .before .is-at .ensures ∙ asked (c .before .before .before .before .before .before .before .before .before .before .pre .0) b (c .before .before .before .before .entry .ensures .0) (inv .2) (c .before .before .line .ensures)) (c .if1 .taken) in
+    let f = failed (c .before .is-at .ensures ∙ asked (c .before .before .before .before .before .before .before .before .before .before .pre .0) b (c .before .before .before .before .entry .ensures .0) (inv .2) (c .before .before .row-at .ensures)) (c .if1 .taken) in
     record { long = inv .2 .long; answer = sym (allBelow-fails _ _ _ b f); moved = λ w. absurd (true≢false (sym w)) }
 
 add-cursors : tie.Need-add-cursors Inv-loop μ-loop
 add-cursors c =
-    let z = few (c .before .before .before .before .before .before .before .before .before .before .pre .0) (c .before .before .before .before .before .loop-test .taken) (c .before .before .before .before .entry .ensures .0) _ (c .before .before .line .ensures) (passed (c .before .is-at .ensures) (c .if1 .left)) in
+    let z = few (c .before .before .before .before .before .before .before .before .before .before .pre .0) (c .before .before .before .before .before .loop-test .taken) (c .before .before .before .before .entry .ensures .0) _ (c .before .before .row-at .ensures) (passed (c .before .is-at .ensures) (c .if1 .left)) in
     omega arith
 
 element-write-cursors : tie.Need-element-write-cursors Inv-loop μ-loop
@@ -69,7 +69,7 @@ loop-again c =
     let inv = c .before .before .before .before .before .before .loop .inv in
     let e = c .before .before .before .before .entry .ensures .0 in (
       search needs,
-      allBelow-more _ _ (inv .1) (passed (c .before .is-at .ensures ∙ asked (p .0) b e (inv .2) (c .before .before .line .ensures)) (c .if1 .left)),
+      allBelow-more _ _ (inv .1) (passed (c .before .is-at .ensures ∙ asked (p .0) b e (inv .2) (c .before .before .row-at .ensures)) (c .if1 .left)),
       one-moved (inv .2) e b refl (let z = low (p .0) b e in omega (arith, p)),
     )
 
@@ -90,8 +90,8 @@ matched-spec =
     μ-loop
     loop-holds
     (λ c κs. search needs)
-    element-copy-out-c
-    line-requires
+    element-copy-out-cursor
+    row-at-requires
     (λ c κs. search needs)
     returns
     add-cursors

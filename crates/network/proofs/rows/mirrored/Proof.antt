@@ -34,18 +34,18 @@ abbrev μ-loop : tie.MeasureT-loop
 loop-holds : tie.Need-loop-holds Inv-loop μ-loop
 loop-holds c = (search needs, λ a b. absurd (not-suc-le-zero b), refl, λ _. none-marked _ _ _ maxBuses)
 
-line-requires : tie.Need-line-requires Inv-loop μ-loop
-line-requires c κs = row-lies _ _ _ (c .before .before .before .before .pre .0 .spans) _ (c .loop-test .taken)
+row-at-requires : tie.Need-row-at-requires Inv-loop μ-loop
+row-at-requires c κs = row-lies _ _ _ (c .before .before .before .before .pre .0 .spans) _ (c .loop-test .taken)
 
 matched-requires : tie.Need-matched-requires Inv-loop μ-loop
 matched-requires c κs =
     let p = c .before .before .before .before .before .before .pre in
-    ((p .0 .spans, p .1, rw (c .before .line .ensures) (p .0 .tidy _ (c .before .before .loop-test .taken))), c .before .before .before .loop .inv .2)
+    ((p .0 .spans, p .1, rw (c .before .row-at .ensures) (p .0 .tidy _ (c .before .before .loop-test .taken))), c .before .before .before .loop .inv .2)
 
 returns : tie.Need-returns Inv-loop μ-loop
 returns c =
     let p = c .before .before .before .before .before .before .before .before .pre in
-    let m = of-row _ (c .before .before .before .line .ensures) (not-true _ (c .if1 .taken)) (c .before .matched .ensures) in
+    let m = of-row _ (c .before .before .before .row-at .ensures) (not-true _ (c .if1 .taken)) (c .before .matched .ensures) in
     sym (fails _ (λ w. let sy = mirrored-facts _ _ _ w in not-refused _ _ _ (p .0) sy _ (c .before .before .before .before .loop-test .taken) _ (c .before .before .before .before .before .loop .inv .3 sy) _ m))
 
 loop-again : tie.Need-loop-again Inv-loop μ-loop
@@ -53,7 +53,7 @@ loop-again c =
     let p = c .before .before .before .before .before .before .before .before .pre in
     let b = c .before .before .before .before .loop-test .taken in
     let inv = c .before .before .before .before .before .loop .inv in
-    let m = of-row _ (c .before .before .before .line .ensures) (not-false _ (c .if1 .left)) (c .before .matched .ensures) in (
+    let m = of-row _ (c .before .before .before .row-at .ensures) (not-false _ (c .if1 .left)) (c .before .matched .ensures) in (
       search needs,
       below-more _ _ (inv .1) (answered _ _ _ _ _ m),
       m .long ∙ inv .2,
@@ -70,7 +70,7 @@ mirrored-spec =
     Inv-loop
     μ-loop
     loop-holds
-    line-requires
+    row-at-requires
     matched-requires
     returns
     (λ c. search needs)

@@ -21,15 +21,15 @@ abbrev μ-loop : tie.MeasureT-loop
 loop-holds : tie.Need-loop-holds Inv-loop μ-loop
 loop-holds c = (search needs, allBelow-start _)
 
-line-requires : tie.Need-line-requires Inv-loop μ-loop
-line-requires c κs = row-lies _ _ _ (c .before .before .before .before .pre) _ (c .loop-test .taken)
+row-at-requires : tie.Need-row-at-requires Inv-loop μ-loop
+row-at-requires c κs = row-lies _ _ _ (c .before .before .before .before .pre) _ (c .loop-test .taken)
 
 returns : tie.Need-returns Inv-loop μ-loop
 unfolding tidyRows
-returns c = sym (allBelow-fails _ _ _ (c .before .before .before .loop-test .taken) (failed (c .before .tidy .ensures ∙ ap (tidyRow _ _) (c .before .before .line .ensures)) (c .if1 .taken)))
+returns c = sym (allBelow-fails _ _ _ (c .before .before .before .loop-test .taken) (failed (c .before .tidy .ensures ∙ ap (tidyRow _ _) (c .before .before .row-at .ensures)) (c .if1 .taken)))
 
 loop-again : tie.Need-loop-again Inv-loop μ-loop
-loop-again c = (search needs, allBelow-more _ _ (c .before .before .before .before .loop .inv .1) (passed (c .before .tidy .ensures ∙ ap (tidyRow _ _) (c .before .before .line .ensures)) (c .if1 .left)))
+loop-again c = (search needs, allBelow-more _ _ (c .before .before .before .before .loop .inv .1) (passed (c .before .tidy .ensures ∙ ap (tidyRow _ _) (c .before .before .row-at .ensures)) (c .if1 .left)))
 
 returns-2 : tie.Need-returns-2 Inv-loop μ-loop
 unfolding tidyRows
@@ -42,7 +42,7 @@ tidy-rows-spec =
     Inv-loop
     μ-loop
     loop-holds
-    line-requires
+    row-at-requires
     (λ c κs. search needs)
     returns
     (λ c. search needs)

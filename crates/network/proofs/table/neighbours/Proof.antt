@@ -12,11 +12,11 @@ links-requires : tie.Need-links-requires
 links-requires c κs = rw (c .before .starts-at .ensures .0) (c .before .before .before .pre .0 .complete)
 
 returns : tie.Need-returns
-returns c = c .line .ensures ∙ row-in _ _ (c .before .before .before .starts-at .ensures .0) (c .before .before .starts .ensures) (c .before .links .ensures)
+returns c = c .row-at .ensures ∙ row-in _ _ (c .before .before .before .starts-at .ensures .0) (c .before .before .starts .ensures) (c .before .links .ensures)
 
-line-requires : tie.Need-line-requires
-line-requires c κs = rw (c .before .starts .ensures, c .links .ensures, c .before .before .starts-at .ensures .0) (row-lies _ _ _ (c .before .before .before .before .pre .0 .rows .spans) _ (c .before .before .before .before .pre .1))
+row-at-requires : tie.Need-row-at-requires
+row-at-requires c κs = rw (c .before .starts .ensures, c .links .ensures, c .before .before .starts-at .ensures .0) (row-lies _ _ _ (c .before .before .before .before .pre .0 .rows .spans) _ (c .before .before .before .before .pre .1))
 
 pub neighbours-spec : {M : Type 1} → statement M
 neighbours-spec =
-    tie.close (tie.spec (λ c κs. search needs) starts-requires links-requires line-requires returns)
+    tie.close (tie.spec (λ c κs. search needs) starts-requires links-requires row-at-requires returns)

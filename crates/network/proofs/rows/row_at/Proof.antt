@@ -1,14 +1,14 @@
--- `network::rows::line` meets its contract. Assumes nothing.
+-- `network::rows::row_at` meets its contract. Assumes nothing.
 use borrow.Author.Needs.{needs}
 use Rattle.network.specs.Rows.{row-read}
-use Rattle.network.proofs.rows.line.Statement.{statement}
-use Rattle.network.proofs.rows.line.Tie as tie
+use Rattle.network.proofs.rows.row_at.Statement.{statement}
+use Rattle.network.proofs.rows.row_at.Tie as tie
 
 returns : tie.Need-returns
 returns c = row-read _ _ _ (c .before .before .entry .ensures .0) (c .before .entry2 .ensures .0)
 
-pub line-spec : {M : Type 1} → statement M
-line-spec =
+pub row-at-spec : {M : Type 1} → statement M
+row-at-spec =
     tie.close
     (tie.spec
     (λ c κs. search needs)
