@@ -81,38 +81,38 @@ answered s l i x y m j h =
     let f = is-there (rowAt s l j) (at x j) i (subst (λ v. isAt (rowAt s l v) (at x v) i ≡ true) (k .2) a) in
     subst (λ v. v ∈ rowAt s l j) (f .1) (in-at (rowAt s l j) (at x j) (f .0))
 
-module _ (n : ℕ) (s l : List ℕ) (w : SoundRows n s l) where
-  -- all rows matched
-  pub all-answered : ((i : ℕ) → i < n → (j : ℕ) → j ∈ rowAt s l i → i ∈ rowAt s l j) → Mirrored n s l
-  all-answered f i j b c =
-      same-test (has j (rowAt s l i)) (has i (rowAt s l j))
-      (λ e. in-has i (rowAt s l j) (f i b j (has-in j (rowAt s l i) e)))
-      (λ e. in-has j (rowAt s l i) (f j c i (has-in i (rowAt s l j) e)))
+-- all rows matched
+pub all-answered : (n : ℕ) (s l : List ℕ) → ((i : ℕ) → i < n → (j : ℕ) → j ∈ rowAt s l i → i ∈ rowAt s l j) → Mirrored n s l
+all-answered n s l f i j b c =
+    same-test (has j (rowAt s l i)) (has i (rowAt s l j))
+    (λ e. in-has i (rowAt s l j) (f i b j (has-in j (rowAt s l i) e)))
+    (λ e. in-has j (rowAt s l i) (f j c i (has-in i (rowAt s l j) e)))
 
-  module _ (sy : Mirrored n s l) (i : ℕ) (b : i < n) (x : List ℕ) (ms : Marks n s l i x) where
-    -- in a mirrored table row i matches
-    matches : allBelow (length (rowAt s l i)) (λ k. isAt (rowAt s l (at (rowAt s l i) k)) (at x (at (rowAt s l i) k)) i) ≡ true
-    unfolding isAt
-    matches =
-        allBelow-by _ (length (rowAt s l i)) λ k g.
-        let j : ℕ = at (rowAt s l i) k in
-        let c : j < n = w .tidy i b .below k g in
-        let h = has-in i (rowAt s l j) (sym (sy i j b c) ∙ in-has j (rowAt s l i) (in-at (rowAt s l i) k g)) in
-        let p = ascending-place i (rowAt s l j) (w .tidy j c .ascends) h in
-        rw (ms j c) (and-both _ _ (lt-ltb _ _ (p .0)) (eq-eqb _ _ (p .1)))
+-- row i of a mirrored table, with the cursors as they must be before it
+module _ (n : ℕ) (s l : List ℕ) (w : SoundRows n s l) (sy : Mirrored n s l) (i : ℕ) (b : i < n) (x : List ℕ) (ms : Marks n s l i x) where
+  -- in a mirrored table row i matches
+  matches : allBelow (length (rowAt s l i)) (λ k. isAt (rowAt s l (at (rowAt s l i) k)) (at x (at (rowAt s l i) k)) i) ≡ true
+  unfolding isAt
+  matches =
+      allBelow-by _ (length (rowAt s l i)) λ k g.
+      let j : ℕ = at (rowAt s l i) k in
+      let c : j < n = w .tidy i b .below k g in
+      let h = has-in i (rowAt s l j) (sym (sy i j b c) ∙ in-has j (rowAt s l i) (in-at (rowAt s l i) k g)) in
+      let p = ascending-place i (rowAt s l j) (w .tidy j c .ascends) h in
+      rw (ms j c) (and-both _ _ (lt-ltb _ _ (p .0)) (eq-eqb _ _ (p .1)))
 
-    pub not-refused : (y : List ℕ) → Matched s l i (rowAt s l i) x false y → ⊥
-    not-refused y m = never-both matches (sym (m .answer))
+  pub not-refused : (y : List ℕ) → Matched s l i (rowAt s l i) x false y → ⊥
+  not-refused y m = never-both matches (sym (m .answer))
 
-    counted : (j : ℕ) → j < n → count j (rowAt s l i) ≡ count i (rowAt s l j)
-    counted j c =
-        let p = tidy-once (w .tidy i b) j in
-        let q = tidy-once (w .tidy j c) i in
-        split (has j (rowAt s l i))
-        (λ e. omega (arith, p, q, has-in j (rowAt s l i) e, has-in i (rowAt s l j) (sym (sy i j b c) ∙ e)))
-        (λ e. has-none j (rowAt s l i) e ∙ sym (has-none i (rowAt s l j) (sym (sy i j b c) ∙ e)))
+  counted : (j : ℕ) → j < n → count j (rowAt s l i) ≡ count i (rowAt s l j)
+  counted j c =
+      let p = tidy-once (w .tidy i b) j in
+      let q = tidy-once (w .tidy j c) i in
+      split (has j (rowAt s l i))
+      (λ e. omega (arith, p, q, has-in j (rowAt s l i) e, has-in i (rowAt s l j) (sym (sy i j b c) ∙ e)))
+      (λ e. has-none j (rowAt s l i) e ∙ sym (has-none i (rowAt s l j) (sym (sy i j b c) ∙ e)))
 
-    -- and its cursors are right for the next row
-    pub marked : (y : List ℕ) → Matched s l i (rowAt s l i) x true y → Marks n s l (i + 1) y
-    marked y m j c =
-        m .moved refl j ∙ ap₂ _+_ (ms j c) (counted j c) ∙ sym (count-under-next i (rowAt s l j))
+  -- and its cursors are right for the next row
+  pub marked : (y : List ℕ) → Matched s l i (rowAt s l i) x true y → Marks n s l (i + 1) y
+  marked y m j c =
+      m .moved refl j ∙ ap₂ _+_ (ms j c) (counted j c) ∙ sym (count-under-next i (rowAt s l j))

@@ -15,7 +15,7 @@ use Rattle.lists.specs.Loops.{allBelow-at, allBelow-by}
 use Rattle.network.specs.Limits.{maxBuses, maxDegree, maxNeed}
 use Rattle.network.specs.Layout.{rowAt, size, needs, starts, entries, links, startsAt}
 use Rattle.network.specs.Rows.{last-read, room}
-use Rattle.network.specs.Holds.{within, same, complete, fairNeeds, neverFall, shortRows, tidy, tidyRow, tidyRows, soundRows, mirrored, twoWay, holds, Complete, FairNeeds, Steps, TidyRow, SoundRows, Mirrored, Holds}
+use Rattle.network.specs.Holds.{within, agree, complete, fairNeeds, neverFall, shortRows, tidy, tidyRow, tidyRows, soundRows, mirrored, twoWay, holds, Complete, FairNeeds, Steps, TidyRow, SoundRows, Mirrored, Holds}
 
 pub within-test : (a b x : ℕ) → a ≤ x → x ≤ b → within a b x ≡ true
 unfolding within
@@ -25,13 +25,13 @@ pub within-facts : (a b x : ℕ) → within a b x ≡ true → (a ≤ x) × (x �
 unfolding within
 within-facts a b x w = (leb-true a x (and-left (leb a x) (leb x b) w), leb-true x b (and-right (leb a x) (leb x b) w))
 
-same-facts : (a b : Bool) → same a b ≡ true → a ≡ b
-same-facts true b w = sym w
-same-facts false b w = sym (not-true b w)
+agree-facts : (a b : Bool) → agree a b ≡ true → a ≡ b
+agree-facts true b w = sym w
+agree-facts false b w = sym (not-true b w)
 
-same-test : (a b : Bool) → a ≡ b → same a b ≡ true
-same-test a true e = rw e
-same-test a false e = rw e
+agree-test : (a b : Bool) → a ≡ b → agree a b ≡ true
+agree-test a true e = rw e
+agree-test a false e = rw e
 
 -- ---- the entries
 
@@ -139,13 +139,13 @@ module _ (n : ℕ) (s l : List ℕ) where
   pub mirrored-facts : mirrored n s l ≡ true → Mirrored n s l
   unfolding mirrored
   mirrored-facts w i j b c =
-      same-facts _ _
-      (allBelow-at (λ j. same (has j (rowAt s l i)) (has i (rowAt s l j))) n
-      (allBelow-at (λ i. allBelow n (λ j. same (has j (rowAt s l i)) (has i (rowAt s l j)))) n w b) c)
+      agree-facts _ _
+      (allBelow-at (λ j. agree (has j (rowAt s l i)) (has i (rowAt s l j))) n
+      (allBelow-at (λ i. allBelow n (λ j. agree (has j (rowAt s l i)) (has i (rowAt s l j)))) n w b) c)
 
   pub mirrored-test : Mirrored n s l → mirrored n s l ≡ true
   unfolding mirrored
-  mirrored-test f = allBelow-by _ n (λ i b. allBelow-by _ n (λ j c. same-test _ _ (f i j b c)))
+  mirrored-test f = allBelow-by _ n (λ i b. allBelow-by _ n (λ j c. agree-test _ _ (f i j b c)))
 
 -- ---- a table, as code tests it: its sections were read into n, s and l
 

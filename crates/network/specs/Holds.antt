@@ -16,9 +16,9 @@ unfoldable pub within : ℕ → ℕ → ℕ → Bool
 within a b x = leb a x && leb x b
 
 -- two tests agree
-abbrev pub same : Bool → Bool → Bool
-same true b = b
-same false b = not b
+abbrev pub agree : Bool → Bool → Bool
+agree true b = b
+agree false b = not b
 
 -- ---- tests
 
@@ -55,7 +55,7 @@ soundRows n s l = eqb (at s 0) 0 && neverFall n s && shortRows n s && tidyRows n
 
 -- j is in row i exactly if i is in row j
 unfoldable pub mirrored : ℕ → List ℕ → List ℕ → Bool
-mirrored n s l = allBelow n (λ i. allBelow n (λ j. same (has j (rowAt s l i)) (has i (rowAt s l j))))
+mirrored n s l = allBelow n (λ i. allBelow n (λ j. agree (has j (rowAt s l i)) (has i (rowAt s l j))))
 
 -- the rows of a table are sound and mirrored
 unfoldable pub twoWay : ℕ → List ℕ → Bool

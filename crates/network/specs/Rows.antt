@@ -73,10 +73,6 @@ row-in t i eh es el = rw (es, el, eh)
 -- ---- and how long they are
 
 module _ (h : ℕ) (t : List ℕ) (w : Complete h t) where
-  pub length-needs : 1 + size t ≤ h → length (needs t) ≡ size t
-  unfolding needs
-  length-needs b = let a = length-part 1 (1 + size t) t (omega (arith, w .whole)) in omega arith
-
   pub length-starts : length (starts h t) ≡ size t + 1
   unfolding starts
   length-starts = let a = length-part h (h + size t + 1) t (omega (arith, w .whole)) in omega arith

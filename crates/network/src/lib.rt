@@ -6,7 +6,7 @@ ghost use Rattle.network.specs.Answers.{degreeSays, degreeOutcome, rowOu
 pub mod rows;
 pub mod table;
 
-use refusals::Refusal;
+pub use refusals::Refusal;
 use table::holds;
 use table::neighbours;
 use table::size;

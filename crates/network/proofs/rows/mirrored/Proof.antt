@@ -61,7 +61,7 @@ loop-again c =
     )
 
 returns-2 : tie.Need-returns-2 Inv-loop μ-loop
-returns-2 c = sym (mirrored-test _ _ _ (all-answered _ _ _ (c .before .before .before .before .pre .0) (λ i b. c .before .loop .inv .1 i (omega arith))))
+returns-2 c = sym (mirrored-test _ _ _ (all-answered _ _ _ (λ i b. c .before .loop .inv .1 i (omega arith))))
 
 pub mirrored-spec : {M : Type 1} → statement M
 mirrored-spec =
