@@ -62,11 +62,6 @@ lcm-by-gcd {a} {b} i = rw (is-gcdOf i)
 
 -- ---- of a list
 
-pub lcmAll-least : (l : List ℕ) (m : ℕ) → CommonMultiple l m → lcmAll l ∣ m
-unfolding lcmAll
-lcmAll-least [] m h = one-dvd m
-lcmAll-least (x ∷ l) m h = lcm-least x (lcmAll l) m (h x (in-first x l)) (lcmAll-least l m (λ y i. h y (omega arith)))
-
 pub lcmAll-multiple : (l : List ℕ) → CommonMultiple l (lcmAll l)
 unfolding lcmAll
 lcmAll-multiple [] x i = absurd (omega arith)
@@ -75,6 +70,11 @@ lcmAll-multiple (y ∷ l) x i =
     split (eqb x y)
     (λ e. rw (eqb-true x y e) (both .left))
     (λ e. dvd-trans x (lcmAll-multiple l x (omega (arith, ap tally e))) (both .right))
+
+pub lcmAll-least : (l : List ℕ) (m : ℕ) → CommonMultiple l m → lcmAll l ∣ m
+unfolding lcmAll
+lcmAll-least [] m h = one-dvd m
+lcmAll-least (x ∷ l) m h = lcm-least x (lcmAll l) m (h x (in-first x l)) (lcmAll-least l m (λ y i. h y (omega arith)))
 
 -- fewer numbers, a divisor; so neither order nor repeats matter, only which numbers are listed
 pub lcmAll-part : (l k : List ℕ) → ((x : ℕ) → x ∈ l → x ∈ k) → lcmAll l ∣ lcmAll k
