@@ -1,11 +1,11 @@
 -- Laws of how often a number stands in a list. Assumes nothing.
-use mathlib.Core.Bool.{true, false, cond}
+use mathlib.Core.Bool.{true, false, cond, _||_}
 use mathlib.Core.List.{List, [], _∷_, _++_}
 use mathlib.Core.Path.{_≡_, refl, sym, ap, _∙_}
 use Prim.Native.Nat.{ℕ, _+_, _*_, _≤_, _<_}
 use native.Mathlib.Nat.{zero-add, zero-lt-suc}
 use native.Mathlib.Omega.{arith}
-use lib.Dec.{eqb}
+use lib.Dec.{eqb, ltb}
 use lib.ListN.{length}
 use borrow.Author.Tests.{eqb-true, ltb-true, ltb-false, lt-ltb, le-ltb}
 use Rattle.lists.specs.Lists.{tally, sumBy, count, _∈_, has, Once, countIn, without}
@@ -32,6 +32,10 @@ in-first x l = omega (arith, ap tally (eqb-self x))
 pub in-length : (x : ℕ) (l : List ℕ) → x ∈ l → 0 < length l
 in-length x [] h = h
 in-length x (y ∷ l) h = zero-lt-suc (length l)
+
+pub has-cons : (x y : ℕ) (l : List ℕ) → has x (y ∷ l) ≡ (eqb x y || has x l)
+has-cons x y l =
+    split (eqb x y) (λ e. rw e (lt-ltb 0 (1 + count x l) (omega arith))) (λ e. rw e (ap (ltb 0) (zero-add (count x l))))
 
 pub count-append : (x : ℕ) (l m : List ℕ) → count x (l ++ m) ≡ count x l + count x m
 count-append x l m = sumBy-append (λ y. tally (eqb x y)) l m
@@ -61,7 +65,7 @@ sumBy-single g k (x ∷ l) =
     (λ e. omega (arith, ap (λ b. g x * tally b) e, ap (λ b. g k * tally b) e, sumBy-single g k l))
 
 -- what is counted once at most is there or not
-has-once : (x : ℕ) (l : List ℕ) → Once l → (c : ℕ) → cond (has x l) c 0 ≡ c * count x l
+pub has-once : (x : ℕ) (l : List ℕ) → Once l → (c : ℕ) → cond (has x l) c 0 ≡ c * count x l
 has-once x l once c =
     split (has x l)
     (λ e. let z : count x l ≡ 1 = omega (arith, once x, has-in x l e) in rw e (omega (arith, ap (λ n. c * n) z)))

@@ -8,12 +8,12 @@ use Prim.Native.Nat.{ℕ, zero, suc, _+_, _≤_, _<_}
 use native.Mathlib.Nat.{not-suc-le-zero, eq-or-lt-of-le, le-of-suc-le-suc}
 use native.Mathlib.Numerals.{add-one}
 use native.Mathlib.Omega.{arith}
-use lib.ListN.{length, getD, take}
-use lib.Seq.{take-suc}
+use lib.ListN.{length, take}
 use Rattle.lists.specs.Lists.{sumBy, at}
 use Rattle.lists.specs.Below.{allBelow, anyBelow, sumBelow, joinBelow, mapBelow, listBelow}
 use Rattle.lists.specs.Tests.{split, fails, never-both, and-both, and-left, and-right, or-left, or-right}
 use Rattle.lists.specs.Sums.{sumBy-append}
+use Rattle.lists.specs.Places.{take-next}
 
 -- a number below n + 1 is n, or below n
 pub last-or : {i n : ℕ} → i < suc n → (i ≡ n) ⊎ (i < n)
@@ -77,8 +77,7 @@ listBelow-next n p = joinBelow-next n (λ i. cond (p i) (i ∷ []) [])
 
 -- along a list
 pub sumBy-take-next : (f : ℕ → ℕ) (l : List ℕ) (k : ℕ) → k < length l → sumBy f (take (k + 1) l) ≡ sumBy f (take k l) + f (at l k)
-unfolding at
-sumBy-take-next f l k h = rw (add-one, take-suc l k 0) (omega (arith, sumBy-append f (take k l) (getD l k 0 ∷ [])))
+sumBy-take-next f l k h = rw (take-next k l h) (omega (arith, sumBy-append f (take k l) (at l k ∷ [])))
 
 -- ---- every number passes
 
@@ -118,6 +117,10 @@ module _ (p : ℕ → Bool) where
   anyBelow-by zero i l h = absurd (not-suc-le-zero l)
   anyBelow-by (suc n) i l h =
       ⊎-elim (λ e. or-right (anyBelow n p) (p n) (rw (← e) h)) (λ l. or-left (anyBelow n p) (p n) (anyBelow-by n i l h)) (last-or l)
+
+  -- a loop's turn does not pass
+  pub anyBelow-more : (i : ℕ) → anyBelow i p ≡ false → p i ≡ false → anyBelow (i + 1) p ≡ false
+  anyBelow-more i h k = anyBelow-next i p ∙ rw (h, k)
 
   -- no number passes
   pub anyBelow-none : (n : ℕ) {i : ℕ} → anyBelow n p ≡ false → i < n → p i ≡ false

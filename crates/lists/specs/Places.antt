@@ -1,13 +1,14 @@
 -- Laws of a list's entries by their places. Assumes nothing.
 use mathlib.Core.Bool.{cond}
 use mathlib.Core.List.{List, [], _∷_, _++_}
-use mathlib.Core.Path.{_≡_, refl, sym, ap, _∙_}
+use mathlib.Core.Path.{_≡_, refl, sym, ap, ap₂, _∙_}
 use Prim.Native.Nat.{ℕ, zero, suc, _+_, _-_, _≤_, _<_}
-use native.Mathlib.Nat.{zero-lt-suc}
+use native.Mathlib.Nat.{zero-lt-suc, not-suc-le-zero}
+use native.Mathlib.Numerals.{add-one}
 use native.Mathlib.Omega.{arith}
 use lib.Dec.{eqb, ltb, leb}
 use lib.ListN.{length, set, replicate, take, drop, length-take, length-drop, List·getD-append}
-use lib.Seq.{getD-set-same, getD-set-other, getD-take, getD-drop, take-append-le, drop-append-le}
+use lib.Seq.{getD-set-same, getD-set-other, take-suc, getD-take, getD-drop, take-append-le, drop-append-le, getD-append-add, take-at, drop-at}
 use borrow.Author.Tests.{eqb-true, eqb-false, ltb-true, ltb-false, leb-true, leb-false, lt-ltb, le-ltb, ne-eqb}
 use Rattle.lists.specs.Lists.{tally, countBy, count, _∈_, has, Once, at, part, Ascending}
 use Rattle.lists.specs.Tests.{split}
@@ -32,9 +33,17 @@ pub at-take : (n : ℕ) (l : List ℕ) (k : ℕ) → k < n → at (take n l) k �
 unfolding at
 at-take n l k h = getD-take n l k 0 h
 
+pub take-next : (k : ℕ) (l : List ℕ) → k < length l → take (k + 1) l ≡ take k l ++ (at l k ∷ [])
+unfolding at
+take-next k l h = rw add-one (take-suc l k 0 h)
+
 pub at-append : (l m : List ℕ) (k : ℕ) → k < length l → at (l ++ m) k ≡ at l k
 unfolding at
 at-append l m k h = List·getD-append l m 0 k h
+
+pub at-behind : (l m : List ℕ) (k : ℕ) → at (l ++ m) (length l + k) ≡ at m k
+unfolding at
+at-behind l m k = getD-append-add l m k 0
 
 -- ---- parts
 
@@ -52,6 +61,12 @@ part-append a e l m h =
     (λ t. let g = leb-true a (length l) t in
     ap (take (e - a)) (drop-append-le a l m g) ∙ take-append-le (e - a) (drop a l) m (omega (arith, length-drop a l)))
     (λ t. let g = leb-false a (length l) t in let z : e - a ≡ 0 = omega arith in rw z)
+
+-- what stands between f and r
+pub part-between : (f m r : List ℕ) {a e : ℕ} → a ≡ length f → e ≡ a + length m → part a e (f ++ (m ++ r)) ≡ m
+part-between f m r {a} {e} p q =
+    let z : e - a ≡ length m = omega arith in
+    ap (take (e - a)) (drop-at f (m ++ r) a (sym p)) ∙ take-at m r (e - a) (sym z)
 
 -- ---- members
 
@@ -96,18 +111,40 @@ under-next i y =
 pub count-under-next : (i : ℕ) (l : List ℕ) → countBy (λ y. ltb y (i + 1)) l ≡ countBy (λ y. ltb y i) l + count i l
 count-under-next i l = sumBy-cong (under-next i) l ∙ sumBy-add (λ y. tally (ltb y i)) (λ y. tally (eqb i y)) l
 
--- a list that ascends: its first entry is below the others
-module _ (x y : ℕ) (l : List ℕ) (h : Ascending (y ∷ l)) where
-  above : (z : ℕ) → z ∈ l → y < z
+-- a list that ascends: its first entry is below the others, which ascend too
+module _ (y : ℕ) (l : List ℕ) (h : Ascending (y ∷ l)) where
+  pub ascends-above : (z : ℕ) → z ∈ l → y < z
   unfolding at
-  above z i = let w = at-in z l i in omega (arith, h 0 (suc (w .0)) (zero-lt-suc (w .0)) (omega (arith, w .1)), w .2)
+  ascends-above z i = let w = at-in z l i in omega (arith, h 0 (suc (w .0)) (zero-lt-suc (w .0)) (omega (arith, w .1)), w .2)
 
-  is-first : x ∈ (y ∷ l) → x ≤ y → y ≡ x
-  is-first m g =
-      split (eqb x y) (λ e. sym (eqb-true x y e)) (λ e. absurd (let z = above x (omega (arith, ap tally e)) in omega arith))
+  pub ascends-tail : Ascending l
+  unfolding at
+  ascends-tail j k a b = h (suc j) (suc k) (omega arith) (omega arith)
 
-  none-under : x ≤ y → countBy (λ z. ltb z x) l ≡ 0
-  none-under g = sumBy-cong-in l (λ z i. let w = above z i in ap tally (le-ltb z x (omega arith))) ∙ sumBy-zero l
+  is-first : (x : ℕ) → x ∈ (y ∷ l) → x ≤ y → y ≡ x
+  is-first x m g =
+      split (eqb x y) (λ e. sym (eqb-true x y e)) (λ e. absurd (let z = ascends-above x (omega (arith, ap tally e)) in omega arith))
+
+  none-under : (x : ℕ) → x ≤ y → countBy (λ z. ltb z x) l ≡ 0
+  none-under x g = sumBy-cong-in l (λ z i. let w = ascends-above z i in ap tally (le-ltb z x (omega arith))) ∙ sumBy-zero l
+
+pub ascends-cons : (y : ℕ) (l : List ℕ) → ((z : ℕ) → z ∈ l → y < z) → Ascending l → Ascending (y ∷ l)
+unfolding at
+ascends-cons y l f h j zero a b = absurd (not-suc-le-zero a)
+ascends-cons y l f h zero (suc k) a b = f (at l k) (in-at l k (omega arith))
+ascends-cons y l f h (suc j) (suc k) a b = h j k (omega arith) (omega arith)
+
+-- lists that ascend and have the same members are the same
+pub ascending-same : (l m : List ℕ) → Ascending l → Ascending m → ((x : ℕ) → count x l ≡ count x m) → l ≡ m
+ascending-same [] [] f g h = refl
+ascending-same [] (y ∷ m) f g h = absurd (omega (arith, h y, in-first y m))
+ascending-same (x ∷ l) [] f g h = absurd (omega (arith, h x, in-first x l))
+ascending-same (x ∷ l) (y ∷ m) f g h =
+    let e : x ≡ y =
+    split (leb x y)
+    (λ t. sym (is-first y m g x (omega (arith, h x, in-first x l)) (leb-true x y t)))
+    (λ t. let z = leb-false x y t in is-first x l f y (omega (arith, h y, in-first y m)) (omega arith)) in
+    ap₂ _∷_ e (ascending-same l m (ascends-tail x l f) (ascends-tail y m g) (λ z. omega (arith, h z, ap (λ v. tally (eqb z v)) e)))
 
 -- and a member stands behind just those below it
 pub ascending-place : (x : ℕ) (l : List ℕ) → Ascending l → x ∈ l
@@ -117,8 +154,8 @@ ascending-place x [] h m = absurd (omega arith)
 ascending-place x (y ∷ l) h m =
     split (ltb y x)
     (λ e. let g = ltb-true y x e in
-    let w = ascending-place x l (λ j k a b. h (suc j) (suc k) (omega arith) (omega arith)) (omega (arith, ap tally (ne-eqb x y (omega arith)))) in
+    let w = ascending-place x l (ascends-tail y l h) (omega (arith, ap tally (ne-eqb x y (omega arith)))) in
     let c = countBy (λ z. ltb z x) l in
     let q : 1 + c ≡ suc c = omega arith in
     rw e (omega (arith, w .0), ap (at (y ∷ l)) q ∙ w .1))
-    (λ e. let g = ltb-false y x e in rw (e, none-under x y l h g) (omega arith, is-first x y l h m g))
+    (λ e. let g = ltb-false y x e in rw (e, none-under y l h x g) (omega arith, is-first y l h x m g))

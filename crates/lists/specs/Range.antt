@@ -3,8 +3,8 @@ use mathlib.Core.Bool.{Bool, true, false, cond, _&&_}
 use mathlib.Core.List.{List, [], _∷_, _++_, append-assoc, append-nil}
 use mathlib.Core.Logic.{⊎-elim}
 use mathlib.Core.Path.{_≡_, refl, sym, ap, ap₂, _∙_, fun-ext}
-use Prim.Native.Nat.{ℕ, zero, suc, _+_, _*_, _≤_, _<_}
-use native.Mathlib.Nat.{not-suc-le-zero, le-refl, le-of-suc-le-suc, eq-or-lt-of-le, add-zero, mul-comm, mul-one}
+use Prim.Native.Nat.{ℕ, zero, suc, _+_, _*_, _≤_, _<_, zero-le}
+use native.Mathlib.Nat.{not-suc-le-zero, le-refl, le-of-suc-le-suc, eq-or-lt-of-le, add-zero, add-le-add, mul-comm, mul-one}
 use native.Mathlib.Omega.{arith}
 use lib.Dec.{eqb, ltb}
 use lib.ListN.{length, take, drop, length-append, List·getD-append}
@@ -13,7 +13,7 @@ use borrow.Author.Tests.{eqb-true, eqb-false, ltb-true, ltb-false, lt-ltb, le-lt
 use Rattle.lists.specs.Lists.{tally, sumBy, count, _∈_, has, Once, at, Ascending}
 use Rattle.lists.specs.Below.{sumBelow, countBelow, joinBelow, mapBelow, listBelow, range}
 use Rattle.lists.specs.Tests.{split, passes, and-left, and-right}
-use Rattle.lists.specs.Sums.{tally-le, tally-and, sumBy-append, sumBy-add, sumBy-ones, sumBy-le}
+use Rattle.lists.specs.Sums.{tally-le, tally-and, sumBy-append, sumBy-add, sumBy-ones}
 use Rattle.lists.specs.Counts.{count-append, sumBy-cong-in, sumBy-single, sumBy-part}
 use Rattle.lists.specs.Places.{in-at}
 use Rattle.lists.specs.Loops.{last-or}
@@ -57,8 +57,17 @@ sumBelow-same f g n h = sym (sumBy-range f n) ∙ sumBy-cong-in (range n) (λ i 
 pub sumBelow-add : (f g : ℕ → ℕ) (n : ℕ) → sumBelow n (λ i. f i + g i) ≡ sumBelow n f + sumBelow n g
 sumBelow-add f g n = sym (sumBy-range (λ i. f i + g i) n) ∙ sumBy-add f g (range n) ∙ ap₂ _+_ (sumBy-range f n) (sumBy-range g n)
 
-pub sumBelow-le : (f g : ℕ → ℕ) (n : ℕ) → ((i : ℕ) → f i ≤ g i) → sumBelow n f ≤ sumBelow n g
-sumBelow-le f g n h = rw (← sumBy-range f n, ← sumBy-range g n) (sumBy-le h (range n))
+pub sumBelow-le : (f g : ℕ → ℕ) (n : ℕ) → ((i : ℕ) → i < n → f i ≤ g i) → sumBelow n f ≤ sumBelow n g
+unfolding sumBelow
+sumBelow-le f g zero h = zero-le
+sumBelow-le f g (suc n) h = add-le-add (sumBelow-le f g n (λ i l. h i (omega arith))) (h n (omega arith))
+
+-- a sum over more numbers is no less
+pub sumBelow-rises : (f : ℕ → ℕ) {i : ℕ} (n : ℕ) → i ≤ n → sumBelow i f ≤ sumBelow n f
+unfolding sumBelow
+sumBelow-rises f {i} zero h = let e : i ≡ 0 = omega arith in rw e (le-refl 0)
+sumBelow-rises f {i} (suc n) h =
+    ⊎-elim (λ e. rw e (le-refl (sumBelow (suc n) f))) (λ l. omega (arith, sumBelow-rises f n (le-of-suc-le-suc l))) (eq-or-lt-of-le h)
 
 pub sumBelow-const : (c n : ℕ) → sumBelow n (λ i. c) ≡ n * c
 unfolding sumBelow
@@ -70,7 +79,20 @@ pub sumBelow-single : (g : ℕ → ℕ) (k n : ℕ) → sumBelow n (λ i. g i * 
 sumBelow-single g k n = sym (sumBy-range (λ i. g i * tally (eqb k i)) n) ∙ sumBy-single g k (range n) ∙ ap (λ c. g k * c) (count-range k n)
 
 pub countBelow-le : (p : ℕ → Bool) (n : ℕ) → countBelow n p ≤ n
-countBelow-le p n = omega (arith, sumBelow-le (λ i. tally (p i)) (λ i. 1) n (λ i. tally-le (p i)), sumBelow-const 1 n)
+countBelow-le p n = omega (arith, sumBelow-le (λ i. tally (p i)) (λ i. 1) n (λ i _. tally-le (p i)), sumBelow-const 1 n)
+
+-- exactly one number below n is k
+pub countBelow-one : (k n : ℕ) → k < n → countBelow n (eqb k) ≡ 1
+countBelow-one k n l =
+    omega
+    (arith, sumBelow-single (λ i. 1) k n, sumBelow-same (λ i. tally (eqb k i)) (λ i. 1 * tally (eqb k i)) n (λ i h. omega arith), ap tally (lt-ltb k n l))
+
+-- a number that passes counts among those below a higher bound
+pub countBelow-more : (p : ℕ → Bool) (k n : ℕ) → k < n → p k ≡ true → countBelow k p < countBelow n p
+unfolding sumBelow
+countBelow-more p k zero l e = absurd (not-suc-le-zero l)
+countBelow-more p k (suc n) l e =
+    ⊎-elim (λ q. omega (arith, ap (λ x. countBelow x p) q, ap tally (sym (ap p q) ∙ e))) (λ h. omega (arith, countBelow-more p k n h e)) (last-or l)
 
 -- of a table of numbers that is the same both ways, with zeros on the diagonal, the part below the diagonal is half
 pub sumBelow-mirror : (f : ℕ → ℕ → ℕ) (n : ℕ) → ((i j : ℕ) → i < n → j < n → f i j ≡ f j i) → ((i : ℕ) → i < n → f i i ≡ 0)
@@ -111,11 +133,7 @@ unfolding listBelow
 length-listBelow n p = length-joinBelow n (λ i. cond (p i) (i ∷ []) []) ∙ sumBelow-same _ _ n (λ i l. split (p i) (λ e. rw e) (λ e. rw e))
 
 pub length-joinBelow-le : (f : ℕ → List ℕ) {i : ℕ} (n : ℕ) → i ≤ n → length (joinBelow i f) ≤ length (joinBelow n f)
-unfolding joinBelow
-length-joinBelow-le f {i} zero h = let e : i ≡ 0 = omega arith in rw e (le-refl 0)
-length-joinBelow-le f {i} (suc n) h =
-    ⊎-elim (λ e. rw e (le-refl (length (joinBelow (suc n) f))))
-    (λ l. omega (arith, length-joinBelow-le f n (le-of-suc-le-suc l), length-append (joinBelow n f) (f n))) (eq-or-lt-of-le h)
+length-joinBelow-le f {i} n h = rw (length-joinBelow i f, length-joinBelow n f) (sumBelow-rises (λ i. length (f i)) n h)
 
 -- lists of what agrees below n agree
 pub joinBelow-same : (f g : ℕ → List ℕ) (n : ℕ) → ((i : ℕ) → i < n → f i ≡ g i) → joinBelow n f ≡ joinBelow n g
@@ -150,6 +168,11 @@ mapBelow-at f (suc n) {i} h =
     (λ l. List·getD-append (mapBelow n f) (f n ∷ []) 0 i (omega (arith, length-mapBelow n f)) ∙ mapBelow-at f n l) (last-or h)
 
 -- ---- the numbers that pass: exactly those, each once, ascending
+
+pub listBelow-none : (n : ℕ) → listBelow n (λ i. false) ≡ []
+unfolding listBelow joinBelow
+listBelow-none zero = refl
+listBelow-none (suc n) = append-nil (listBelow n (λ i. false)) ∙ listBelow-none n
 
 pub count-listBelow : (x n : ℕ) (p : ℕ → Bool) → count x (listBelow n p) ≡ tally (ltb x n && p x)
 unfolding listBelow

@@ -1,13 +1,14 @@
 -- Laws of a list written into a slice. Assumes nothing.
 use mathlib.Core.List.{List, [], _∷_, _++_, append-assoc}
-use mathlib.Core.Path.{_≡_, sym, ap, ap₂, _∙_}
-use Prim.Native.Nat.{ℕ, _+_, _≤_, _<_}
-use native.Mathlib.Nat.{zero-add, add-zero, add-assoc, add-suc}
+use mathlib.Core.Path.{_≡_, refl, sym, ap, ap₂, _∙_}
+use Prim.Native.Nat.{ℕ, _+_, _-_, _≤_, _<_}
+use native.Mathlib.Nat.{le-refl, zero-add, add-zero, add-assoc, add-suc}
 use native.Mathlib.Numerals.{add-one}
 use native.Mathlib.Omega.{arith}
 use lib.ListN.{length, set, take, drop, length-append, length-take, length-drop, take-append-drop}
-use lib.Seq.{drop-cons, append-snoc, set-at, take-at, drop-append-add, drop-drop, length-take-le, set-append-left, take-set-lt, drop-set-lt}
-use Rattle.lists.specs.Lists.{put}
+use lib.Seq.{drop-cons, append-snoc, set-at, take-at, drop-at, drop-append-le, drop-append-add, drop-drop, length-take-le, set-append-left, take-set-le, take-set-lt, drop-set-lt}
+use Rattle.lists.specs.Lists.{part, put}
+use Rattle.lists.specs.Places.{length-part, part-append}
 
 -- what is written at the front, and behind it the rest as it was
 pub put-front : (t vs : List ℕ) → put t 0 vs ≡ vs ++ drop (length vs) t
@@ -53,9 +54,62 @@ module _ (t : List ℕ) (i : ℕ) (vs : List ℕ) where
           ∙ drop-append-add (take i t ++ vs) (drop (i + length vs) t) (length ws)
           ∙ drop-drop (length ws) (i + length vs) t
 
+  -- a store at the first place is written over
+  pub put-over : (x : ℕ) → 0 < length vs → put (set t i x) i vs ≡ put t i vs
+  unfolding put
+  put-over x h = ap₂ (λ u v. u ++ (vs ++ v)) (take-set-le i t i x (le-refl i)) (drop-set-lt (i + length vs) t i x (omega arith))
+
   -- a store before what was written
   pub put-below : (a x : ℕ) → a < i → i ≤ length t → set (put t i vs) a x ≡ put (set t a x) i vs
   unfolding put
   put-below a x l h =
       set-append-left (take i t) _ a x (rw (length-take-le i t h) l)
       ∙ ap₂ (λ u v. u ++ (vs ++ v)) (sym (take-set-lt i t a x l)) (sym (drop-set-lt (i + length vs) t a x (omega arith)))
+
+  -- what was written is there, and what stands before and behind it stays
+  pub part-put : i ≤ length t → part i (i + length vs) (put t i vs) ≡ vs
+  unfolding put
+  part-put h =
+      let e : i + length vs - i ≡ length vs = omega arith in
+      ap₂ take e (drop-at (take i t) _ i (length-take-le i t h)) ∙ take-at vs _ (length vs) refl
+
+  pub part-put-before : (a e : ℕ) → e ≤ i → i ≤ length t → part a e (put t i vs) ≡ part a e t
+  unfolding put
+  part-put-before a e l h =
+      let s = length-take-le i t h in
+      part-append a e (take i t) _ (omega arith) ∙ sym (part-append a e (take i t) (drop i t) (omega arith)) ∙ ap (part a e) (take-append-drop i t)
+
+  pub part-put-behind : (a e : ℕ) → i + length vs ≤ a → i ≤ length t → part a e (put t i vs) ≡ part a e t
+  unfolding put
+  part-put-behind a e l h =
+      let d = a - (i + length vs) in
+      let p : length (take i t ++ vs) + d ≡ a = omega (arith, head-length h) in
+      let q : i + length vs + d ≡ a = omega arith in
+      ap (take (e - a))
+      (ap₂ drop (sym p) (sym (append-assoc (take i t) vs (drop (i + length vs) t)))
+      ∙ drop-append-add (take i t ++ vs) (drop (i + length vs) t) d
+      ∙ drop-drop d (i + length vs) t
+      ∙ ap (λ n. drop n t) q)
+
+-- a loop that stores: so far vs stands in u from place i on, and j is the next place
+module _ (t : List ℕ) (i : ℕ) (vs : List ℕ) {u : List ℕ} {j : ℕ} (w : u ≡ put t i vs) (e : j ≡ i + length vs) where
+  pub stored-length : j ≤ length t → length u ≡ length t
+  stored-length h = ap length w ∙ length-put t i vs (omega arith)
+
+  pub stored-entry : (x : ℕ) → j < length t → set u j x ≡ put t i (vs ++ (x ∷ []))
+  stored-entry x h = ap₂ (λ l n. set l n x) w e ∙ put-snoc t i vs x (omega arith)
+
+  pub stored-list : (ws : List ℕ) → i ≤ length t → put u j ws ≡ put t i (vs ++ ws)
+  stored-list ws h = ap₂ (λ l n. put l n ws) w e ∙ put-put t i vs ws h
+
+-- what is written at the front of a part stands in the whole from the part's start on
+pub put-part : (t : List ℕ) (a e : ℕ) (vs : List ℕ) → e ≤ length t → length vs ≤ e - a
+    → take a t ++ (put (part a e t) 0 vs ++ drop (e - a) (drop a t)) ≡ put t a vs
+unfolding put
+put-part t a e vs h l =
+    let d = drop a t in
+    let s = length-part a e t h in
+    ap (λ r. take a t ++ (r ++ drop (e - a) d)) (put-front (part a e t) vs)
+    ∙ ap (λ r. take a t ++ r)
+    (append-assoc vs (drop (length vs) (part a e t)) (drop (e - a) d)
+    ∙ ap (λ r. vs ++ r) (sym (drop-append-le (length vs) (part a e t) (drop (e - a) d) (omega arith)) ∙ ap (drop (length vs)) (take-append-drop (e - a) d) ∙ drop-drop (length vs) a t))

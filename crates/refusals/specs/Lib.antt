@@ -1,4 +1,5 @@
 pub mod Numbers
 pub mod Outcomes
 pub mod Examples
+pub mod Causes
 pub mod Tells

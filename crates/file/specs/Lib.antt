@@ -1,0 +1,4 @@
+pub mod Bytes
+pub mod Sections
+pub mod Examples
+pub mod Sound

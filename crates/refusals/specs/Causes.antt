@@ -1,0 +1,75 @@
+-- Laws of the first cause. Assumes nothing.
+use mathlib.Core.Bool.{Bool, true, false, cond, true≢false}
+use mathlib.Core.List.{List, [], _∷_, _++_}
+use mathlib.Core.Path.{_≡_, refl, sym, ap, _∙_}
+use Prim.Native.Nat.{ℕ}
+use Rattle.refusals.specs.declared.Refusal.{Refusal}
+use Rattle.refusals.specs.Numbers.{numberOf}
+use Rattle.refusals.specs.Outcomes.{Outcome, gives, refuses, Cause, _⇒_, outcome, valuesOr}
+
+module _ {A : Type 0} (t : Bool) (r : Refusal) (cs : List Cause) (values : A) where
+  -- a cause that holds refuses, and one that does not is passed over
+  pub stops : t ≡ true → outcome ((t ⇒ r) ∷ cs) values ≡ refuses (numberOf r)
+  stops e = rw e
+
+  pub goes-on : t ≡ false → outcome ((t ⇒ r) ∷ cs) values ≡ outcome cs values
+  goes-on e = rw e
+
+abbrev given : {A : Type 0} → Outcome A → Bool
+given (gives values) = true
+given (refuses number) = false
+
+-- no call does both
+pub not-both : {A : Type 0} {w : A} {k : ℕ} → gives w ≡ refuses k → ⊥
+not-both e = true≢false (ap given e)
+
+-- no cause of a list holds
+abbrev pub NoneHolds : List Cause → Type 0
+NoneHolds [] = Unit {0}
+NoneHolds (c ∷ cs) = (c .test ≡ false) × NoneHolds cs
+
+-- where values are given no cause holds, and they are the call's
+pub no-cause : {A : Type 0} (cs : List Cause) (values : A) {w : A} → outcome cs values ≡ gives w → NoneHolds cs × (w ≡ values)
+no-cause [] values {w} e = (tt, sym (ap (valuesOr w) e))
+no-cause (c ∷ cs) values {w} e = go (c .test) (no-cause cs values) e
+  where
+    go : (t : Bool) → (outcome cs values ≡ gives w → NoneHolds cs × (w ≡ values))
+        → cond t (refuses (numberOf (c .refusal))) (outcome cs values) ≡ gives w → ((t ≡ false) × NoneHolds cs) × (w ≡ values)
+    go true h q = absurd (not-both (sym q))
+    go false h q = let z = h q in ((refl, z .0), z .1)
+
+-- and where no cause holds they are given
+pub none-gives : {A : Type 0} (cs : List Cause) (values : A) → NoneHolds cs → outcome cs values ≡ gives values
+none-gives [] values h = refl
+none-gives (c ∷ cs) values h = rw (h .0) (none-gives cs values (h .1))
+
+-- ---- two lists of causes, one behind the other
+
+pub none-both : (cs ds : List Cause) → NoneHolds (cs ++ ds) → NoneHolds cs × NoneHolds ds
+none-both [] ds h = (tt, h)
+none-both (c ∷ cs) ds h = let z = none-both cs ds (h .1) in ((h .0, z .0), z .1)
+
+module _ {A B : Type 0} where
+  -- what the first gives is left to the second to decide
+  abbrev orElse : Outcome A → Outcome B → Outcome B
+  orElse (gives values) o = o
+  orElse (refuses number) o = refuses number
+
+  or-under : (t : Bool) (k : ℕ) (x : Outcome A) (y : Outcome B) → cond t (refuses k) (orElse x y) ≡ orElse (cond t (refuses k) x) y
+  or-under true k x y = refl
+  or-under false k x y = refl
+
+  module _ (ds : List Cause) (u : A) (v : B) where
+    joined : (cs : List Cause) → outcome (cs ++ ds) v ≡ orElse (outcome cs u) (outcome ds v)
+    joined [] = refl
+    joined (c ∷ cs) =
+        ap (cond (c .test) (refuses (numberOf (c .refusal)))) (joined cs)
+        ∙ or-under (c .test) (numberOf (c .refusal)) (outcome cs u) (outcome ds v)
+
+    -- where the first refuses, the two do
+    pub first-refuses : (cs : List Cause) {k : ℕ} → outcome cs u ≡ refuses k → outcome (cs ++ ds) v ≡ refuses k
+    first-refuses cs e = joined cs ∙ ap (λ (x : Outcome A). orElse x (outcome ds v)) e
+
+    -- where it gives values, the second decides
+    pub then-decides : (cs : List Cause) {w : A} → outcome cs u ≡ gives w → outcome (cs ++ ds) v ≡ outcome ds v
+    then-decides cs e = joined cs ∙ ap (λ (x : Outcome A). orElse x (outcome ds v)) e

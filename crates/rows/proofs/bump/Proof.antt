@@ -1,0 +1,26 @@
+-- `rows::bump` meets its contract. Assumes nothing.
+use borrow.Author.Needs.{needs}
+use native.Mathlib.Omega.{arith}
+use mathlib.Core.Path.{refl}
+use Rattle.lists.specs.Lists.{at}
+use Rattle.rows.proofs.bump.Statement.{statement}
+use Rattle.rows.proofs.bump.Tie as tie
+
+add-counts : tie.Need-add-counts
+unfolding at
+add-counts c = omega (arith, c .before .pre .1)
+
+returns : tie.Need-returns
+unfolding at
+returns c = refl
+
+pub bump-spec : {M : Type 1} → statement M
+bump-spec =
+    tie.close
+    (tie.spec
+    (λ c. search needs)
+    (λ c. search needs)
+    add-counts
+    (λ c. search needs)
+    (λ c. search needs)
+    returns)

@@ -1,0 +1,69 @@
+-- `rows::store` meets its contract. Assumes nothing.
+use borrow.Author.Needs.{needs}
+use native.Mathlib.Omega.{arith}
+use mathlib.Core.List.{List}
+use mathlib.Core.Path.{_≡_, sym, ap, _∙_}
+use Prim.Native.Nat.{ℕ, _+_}
+use lib.ListN.{length}
+use Rattle.lists.specs.Lists.{at, put}
+use Rattle.lists.specs.Below.{joinBelow, mapBelow}
+use Rattle.lists.specs.Range.{sumBelow-le, sumBelow-const, length-mapBelow, mapBelow-same}
+use Rattle.lists.specs.Writes.{stored-length, stored-list}
+use Rattle.network.specs.Limits.{maxDegree}
+use Rattle.rows.specs.Held.{held, laid}
+use Rattle.rows.specs.HeldLaws.{held-sum, length-laid}
+use Rattle.rows.proofs.store.Statement.{statement}
+use Rattle.rows.proofs.store.Tie as tie
+
+abbrev start : tie.After-store-starts → tie.Start
+start c = c .before .before .before .before
+
+-- the rows
+abbrev rows : tie.Start → ℕ → List ℕ
+rows s = held (s .args .slots .now) (s .args .counts .now)
+
+-- the table with the row starts
+module _ (c : tie.After-store-starts) where
+  abbrev vs : List ℕ
+  vs = mapBelow (start c .args .n + 1) (λ i. length (joinBelow i (rows (start c))))
+
+  begun : c .store-starts .last .1 .1 .0 ≡ put (start c .args .table .now) (start c .args .h) vs
+  begun = c .store-starts .ensures ∙ ap (put _ _) (mapBelow-same _ _ (start c .args .n + 1) (λ i l. sym (held-sum (start c .pre .0 .1) (omega (arith, start c .pre .0 .0)))))
+
+  next : start c .args .h + start c .args .n + 1 ≡ start c .args .h + length vs
+  next = omega (arith, length-mapBelow (start c .args .n + 1) (λ i. length (joinBelow i (rows (start c)))))
+
+store-starts-requires : tie.Need-store-starts-requires
+store-starts-requires c κs =
+    let s = c .before .before .before in
+    let n = s .args .n in
+    let f = at (s .args .counts .now) in (
+      (s .pre .0 .0, omega (arith, s .pre .1, length-laid (rows s) n)),
+      omega (arith, s .pre .0 .0, sumBelow-le f (λ i. maxDegree) n (λ i l. s .pre .0 .1 .few i (omega (arith, s .pre .0 .0))), sumBelow-const maxDegree n),
+    )
+
+store-rows-requires : tie.Need-store-rows-requires
+store-rows-requires c κs =
+    let p = c .before .before .before in
+    let s = start p in
+    let z = length-laid (rows s) (s .args .n) in
+    (s .pre .0, omega (arith, s .pre .1, stored-length _ _ _ (begun p) (next p) (omega (arith, s .pre .1))))
+
+returns : tie.Need-returns
+unfolding laid
+returns c =
+    let p = c .before .before .before .before .before .before in
+    let s = start p in
+    c .before .before .store-rows .ensures
+    ∙ stored-list _ _ _ (begun p) (next p) (joinBelow (s .args .n) (rows s)) (omega (arith, s .pre .1))
+
+pub store-spec : {M : Type 1} → statement M
+store-spec =
+    tie.close
+    (tie.spec
+    store-starts-requires
+    (λ c. search needs)
+    (λ c. search needs)
+    store-rows-requires
+    (λ c. search needs)
+    returns)

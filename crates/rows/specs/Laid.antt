@@ -1,0 +1,116 @@
+-- Rows laid out in a line table are read back as they were, and make a network if they are a network's. Assumes nothing.
+use mathlib.Core.List.{List, [], _∷_, _++_, append-assoc, append-nil}
+use mathlib.Core.Path.{_≡_, refl, sym, ap, ap₂, _∙_}
+use Prim.Native.Nat.{ℕ, _+_, _-_, _≤_, _<_}
+use native.Mathlib.Omega.{arith}
+use lib.ListN.{length, take, drop, length-append}
+use Rattle.lists.specs.Lists.{has, at, part}
+use Rattle.lists.specs.Below.{joinBelow, mapBelow}
+use Rattle.lists.specs.Places.{at-append, at-behind, part-between}
+use Rattle.lists.specs.Loops.{joinBelow-next}
+use Rattle.lists.specs.Range.{length-mapBelow, mapBelow-at, joinBelow-at}
+use Rattle.network.specs.Limits.{maxBuses, maxDegree}
+use Rattle.network.specs.Layout.{rowAt, size, needs, starts, last, links, startsAt, row}
+use Rattle.network.specs.Holds.{FairNeeds, TidyRow, SoundRows, Holds}
+use Rattle.rows.specs.Held.{laid}
+use Rattle.rows.specs.HeldLaws.{length-laid}
+
+module _ (n : ℕ) (rows : ℕ → List ℕ) where
+  abbrev firsts : List ℕ
+  firsts = mapBelow (n + 1) (λ i. length (joinBelow i rows))
+
+  length-firsts : length firsts ≡ n + 1
+  length-firsts = length-mapBelow (n + 1) (λ i. length (joinBelow i rows))
+
+  first-at : (i : ℕ) → i ≤ n → at firsts i ≡ length (joinBelow i rows)
+  first-at i b = mapBelow-at (λ i. length (joinBelow i rows)) (n + 1) (omega arith)
+
+  longer : (i : ℕ) → length (joinBelow (i + 1) rows) ≡ length (joinBelow i rows) + length (rows i)
+  longer i = ap length (joinBelow-next i rows) ∙ length-append (joinBelow i rows) (rows i)
+
+  row-back : (i : ℕ) → i < n → rowAt firsts (joinBelow n rows) i ≡ rows i
+  unfolding rowAt
+  row-back i b =
+      let z : length (joinBelow (i + 1) rows) - length (joinBelow i rows) ≡ length (rows i) = omega (arith, longer i) in
+      ap₂ (λ a e. part a e (joinBelow n rows)) (first-at i (omega arith)) (first-at (i + 1) (omega arith))
+      ∙ ap₂ (λ k l. take k (drop (length (joinBelow i rows)) l)) z (sym (append-nil (joinBelow n rows)))
+      ∙ joinBelow-at rows n [] b
+
+  -- a table of n buses whose rows were laid out behind `front`
+  module _ (front rest : List ℕ) {t : List ℕ} {h : ℕ} (shape : t ≡ front ++ (laid n rows ++ rest)) (begin : h ≡ length front) (count : size t ≡ n) where
+    shaped : t ≡ front ++ (firsts ++ (joinBelow n rows ++ rest))
+    unfolding laid
+    shaped = shape ∙ ap (λ l. front ++ l) (append-assoc firsts (joinBelow n rows) rest)
+
+    starts-back : starts h t ≡ firsts
+    unfolding starts
+    starts-back =
+        ap (part h (h + size t + 1)) shaped ∙ part-between front firsts (joinBelow n rows ++ rest) begin (omega (arith, count, length-firsts))
+
+    last-back : last h t ≡ length (joinBelow n rows)
+    last-back =
+        let z : h + size t ≡ length front + n = omega (arith, begin, count) in
+        ap₂ at shaped z
+        ∙ at-behind front (firsts ++ (joinBelow n rows ++ rest)) n
+        ∙ at-append firsts (joinBelow n rows ++ rest) n (omega (arith, length-firsts))
+        ∙ first-at n (omega arith)
+
+    links-back : links h t ≡ joinBelow n rows
+    unfolding links
+    links-back =
+        let a : h + size t + 1 ≡ length (front ++ firsts) = omega (arith, begin, count, length-firsts, length-append front firsts) in
+        let e : h + size t + 1 + last h t ≡ h + size t + 1 + length (joinBelow n rows) = omega (arith, last-back) in
+        ap (part (h + size t + 1) (h + size t + 1 + last h t)) (shaped ∙ sym (append-assoc front firsts (joinBelow n rows ++ rest)))
+        ∙ part-between (front ++ firsts) (joinBelow n rows) rest a e
+
+    pub rows-back : (i : ℕ) → i < n → rowAt (starts h t) (links h t) i ≡ rows i
+    rows-back i b = rw (starts-back, links-back) (row-back i b)
+
+    rows-sound : ((i : ℕ) → i < n → TidyRow n i (rows i)) → ((i : ℕ) → i < n → length (rows i) ≤ maxDegree) → SoundRows n (starts h t) (links h t)
+    unfolding joinBelow
+    rows-sound tidy short =
+        rw (starts-back, links-back)
+        record {
+          spans = record {
+            long = omega (arith, length-firsts);
+            ends = omega (arith, first-at n (omega arith));
+            steps = λ i b. (omega (arith, first-at i (omega arith), first-at (i + 1) (omega arith), longer i), omega (arith, first-at i (omega arith), first-at (i + 1) (omega arith), longer i, short i b));
+          };
+          first = first-at 0 (omega arith);
+          tidy = λ i b. rw (row-back i b) (tidy i b);
+        }
+
+-- n, the needs q, the rows laid out, and whatever follows
+module _ (n : ℕ) (q : List ℕ) (rows : ℕ → List ℕ) (rest : List ℕ) (long : length q ≡ n) where
+  abbrev made : List ℕ
+  made = (n ∷ q) ++ (laid n rows ++ rest)
+
+  begins : startsAt made ≡ length (n ∷ q)
+  unfolding at
+  begins = omega (arith, long)
+
+  pub made-size : size made ≡ n
+  unfolding at
+  made-size = refl
+
+  pub made-needs : needs made ≡ q
+  unfolding needs at
+  made-needs = part-between (n ∷ []) q (laid n rows ++ rest) {e = 1 + n} refl (omega (arith, long))
+
+  pub made-last : last (startsAt made) made ≡ length (joinBelow n rows)
+  made-last = last-back n rows (n ∷ q) rest refl begins made-size
+
+  pub made-row : (i : ℕ) → i < n → row made i ≡ rows i
+  unfolding row
+  made-row i b = rows-back n rows (n ∷ q) rest refl begins made-size i b
+
+  pub made-holds : 1 ≤ n → n ≤ maxBuses → FairNeeds q → ((i : ℕ) → i < n → TidyRow n i (rows i)) → ((i : ℕ) → i < n → length (rows i) ≤ maxDegree)
+      → ((i j : ℕ) → i < n → j < n → has j (rows i) ≡ has i (rows j)) → Holds made
+  unfolding row at
+  made-holds least most fair tidy short mirror =
+      record {
+        complete = record { least = least; most = most; whole = omega (arith, made-last, long, length-append q (laid n rows ++ rest), length-append (laid n rows) rest, length-laid rows n) };
+        fair = rw made-needs fair;
+        rows = rows-sound n rows (n ∷ q) rest refl begins made-size tidy short;
+        mirrored = λ i j b c. ap (has j) (made-row i b) ∙ mirror i j b c ∙ sym (ap (has i) (made-row j c));
+      }

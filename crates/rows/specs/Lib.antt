@@ -1,0 +1,7 @@
+pub mod Insertion
+pub mod Held
+pub mod Shifting
+pub mod Examples
+pub mod Inserting
+pub mod HeldLaws
+pub mod Laid

@@ -1,0 +1,185 @@
+// Rows of ascending bus numbers, built in local arrays and laid out in a line table. Nothing here knows of a file.
+ghost use mathlib.Core.Path.{_≡_};
+ghost use Prim.Native.Nat.{_+_, _≤_, _<_};
+ghost use lib.ListN.{length, set, take};
+ghost use Rattle.lists.specs.Lists.{at, Ascending, put};
+ghost use Rattle.lists.specs.Below.{sumBelow, joinBelow, mapBelow};
+ghost use Rattle.network.specs.Limits.{maxBuses, maxDegree};
+ghost use Rattle.rows.specs.Insertion.{isAdded, RowAfter};
+ghost use Rattle.rows.specs.Shifting.{Place, insertAt};
+ghost use Rattle.rows.specs.Held.{maxSlots, held, Rows, Blank, RowsAfter, laid};
+use network::Network;
+
+// What inserting a number into a row did.
+pub enum Inserted {
+    // The number stands in the row now.
+    Added,
+    // It stood there already.
+    Present,
+    // It did not, and the row has no slot left.
+    Full,
+}
+
+impl Inserted {
+    // Whether the number was added.
+    pub fn added(self) -> bool
+        ensures { λ b. ⌜ b ≡ isAdded self ⌝ }
+    {
+        match self {
+            Inserted::Added => true,
+            Inserted::Present => false,
+            Inserted::Full => false,
+        }
+    }
+}
+
+// Slots of all buses.
+pub struct Slots;
+
+impl Slots {
+    pub const ALL: usize = Network::BUSES * Network::LINES_AT_BUS;
+}
+
+// How many of a row's first `count` numbers, which ascend, are below x. Looks from the end, where x mostly belongs.
+fn place(row: &[u16], count: usize, x: u16) -> usize
+    requires { ⌜ (count ≤ length (now row)) × Ascending (take count (now row)) ⌝ }
+    ensures { λ r. ⌜ Place x (take count (now (row .entry))) r ⌝ }
+{
+    let mut p = count;
+    while 0 < p {
+        let last = p - 1;
+        if row[last] < x {
+            return p;
+        }
+        p = last;
+    }
+    p
+}
+
+// Moves the numbers from place p up to `count` one slot on, and writes x at p.
+fn shift_in(row: &mut [u16], p: usize, count: usize, x: u16)
+    requires { ⌜ (p ≤ count) × (count < length (now row)) ⌝ }
+    ensures { λ _. ⌜ now (row .exit) ≡ put (now (row .entry)) 0 (insertAt (take count (now (row .entry))) p x) ⌝ }
+{
+    let mut j = count;
+    while p < j {
+        let i = j - 1;
+        row[j] = row[i];
+        j = i;
+    }
+    row[p] = x;
+}
+
+// Inserts x into a row whose first `count` slots are taken by numbers that ascend.
+pub fn insert(row: &mut [u16], count: usize, x: u16) -> Inserted
+    requires { ⌜ (count ≤ length (now row)) × Ascending (take count (now row)) ⌝ }
+    ensures { λ r. ⌜ RowAfter r x (take count (now (row .entry))) (now (row .entry)) (now (row .exit)) ⌝ }
+{
+    let p = place(row, count, x);
+    if p < count {
+        if row[p] == x {
+            return Inserted::Present;
+        }
+    }
+    if row.len() <= count {
+        return Inserted::Full;
+    }
+    shift_in(row, p, count, x);
+    Inserted::Added
+}
+
+// Slots for all rows. What stands in them does not matter.
+pub fn blank_slots() -> [u16; Slots::ALL]
+    ensures { λ r. ⌜ length r ≡ maxSlots ⌝ }
+{
+    [0; Slots::ALL]
+}
+
+// A count of 0 for each bus.
+pub fn blank_counts() -> [u16; Network::BUSES]
+    ensures { λ r. ⌜ Blank r ⌝ }
+{
+    [0; Network::BUSES]
+}
+
+// One more at a bus.
+pub fn bump(counts: &mut [u16; Network::BUSES], bus: usize)
+    requires { ⌜ (bus < maxBuses) × (at (now counts) bus < 65535) ⌝ }
+    ensures { λ _. ⌜ now (counts .exit) ≡ set (now (counts .entry)) bus (at (now (counts .entry)) bus + 1) ⌝ }
+{
+    counts[bus] = counts[bus] + 1;
+}
+
+// Inserts x into the row of a bus.
+pub fn add(slots: &mut [u16], counts: &mut [u16; Network::BUSES], bus: usize, x: u16) -> Inserted
+    requires { ⌜ (bus < maxBuses) × Rows (now slots) (now counts) ⌝ }
+    ensures { λ r. ⌜ RowsAfter r x bus (now (slots .entry)) (now (counts .entry)) (now (slots .exit)) (now (counts .exit)) ⌝ }
+{
+    let count = counts[bus] as usize;
+    let from = bus * Network::LINES_AT_BUS;
+    let end = from + Network::LINES_AT_BUS;
+    match insert(&mut slots[from..end], count, x) {
+        Inserted::Added => {
+            bump(counts, bus);
+            Inserted::Added
+        }
+        Inserted::Present => Inserted::Present,
+        Inserted::Full => Inserted::Full,
+    }
+}
+
+// Writes a list into the table from place `to` on.
+fn copy(list: &[u16], table: &mut [u16], to: usize)
+    requires { ⌜ to + length (now list) ≤ length (now table) ⌝ }
+    ensures { λ _. ⌜ now (table .exit) ≡ put (now (table .entry)) to (now (list .entry)) ⌝ }
+{
+    let mut k = 0;
+    while k < list.len() {
+        table[to + k] = list[k];
+        k += 1;
+    }
+}
+
+// Writes the row starts of n buses into the table from place h on.
+fn store_starts(counts: &[u16; Network::BUSES], n: usize, table: &mut [u16], h: usize)
+    requires { ⌜ (n ≤ maxBuses) × (h + n + 1 ≤ length (now table)) ⌝ }
+    requires { ⌜ sumBelow n (at (now counts)) < 65536 ⌝ }
+    ensures { λ _. ⌜ now (table .exit) ≡ put (now (table .entry)) h (mapBelow (n + 1) (λ i. sumBelow i (at (now (counts .entry))))) ⌝ }
+{
+    table[h] = 0;
+    let mut start = 0;
+    let mut bus = 0;
+    while bus < n {
+        start += counts[bus];
+        table[h + 1 + bus] = start;
+        bus += 1;
+    }
+}
+
+// Writes the rows of n buses into the table from place `to` on.
+fn store_rows(slots: &[u16], counts: &[u16; Network::BUSES], n: usize, table: &mut [u16], to: usize)
+    requires { ⌜ (n ≤ maxBuses) × Rows (now slots) (now counts) ⌝ }
+    requires { ⌜ to + length (joinBelow n (held (now slots) (now counts))) ≤ length (now table) ⌝ }
+    ensures { λ _. ⌜ now (table .exit) ≡ put (now (table .entry)) to (joinBelow n (held (now (slots .entry)) (now (counts .entry)))) ⌝ }
+{
+    let mut next = to;
+    let mut bus = 0;
+    while bus < n {
+        let count = counts[bus] as usize;
+        let from = bus * Network::LINES_AT_BUS;
+        let end = from + count;
+        copy(&slots[from..end], table, next);
+        next += count;
+        bus += 1;
+    }
+}
+
+// Writes the row starts and the rows of n buses into the table from place h on.
+pub fn store(slots: &[u16], counts: &[u16; Network::BUSES], n: usize, table: &mut [u16], h: usize)
+    requires { ⌜ (n ≤ maxBuses) × Rows (now slots) (now counts) ⌝ }
+    requires { ⌜ h + length (laid n (held (now slots) (now counts))) ≤ length (now table) ⌝ }
+    ensures { λ _. ⌜ now (table .exit) ≡ put (now (table .entry)) h (laid n (held (now (slots .entry)) (now (counts .entry)))) ⌝ }
+{
+    store_starts(counts, n, table, h);
+    store_rows(slots, counts, n, table, h + n + 1);
+}
