@@ -3,12 +3,12 @@ use mathlib.Core.Bool.{true, false}
 use mathlib.Core.List.{List, [], _∷_, _++_, map}
 use mathlib.Core.Path.{_≡_, refl}
 use Prim.Native.Nat.{ℕ, suc, _+_}
-use lib.ListN.{replicate}
+use lib.ListN.{getD, replicate}
 use Rattle.refusals.specs.Outcomes.{gives, refuses}
 use Rattle.lists.specs.Lists.{at}
 use Rattle.lists.specs.Below.{allBelow, sumBelow, joinBelow, mapBelow}
 use Rattle.network.specs.Limits.{maxLines, maxEntries, maxBytes}
-use Rattle.network.specs.Layout.{rowAt, needs, starts, links, row, lines}
+use Rattle.network.specs.Layout.{rowAt, laid, needs, starts, links, row, lines, tableOf}
 use Rattle.network.specs.Holds.{within, complete, fairNeeds, neverFall, shortRows, tidy, tidyRow, tidyRows, soundRows, mirrored, twoWay, holds}
 use Rattle.network.specs.Answers.{degreeOutcome, rowOutcome}
 
@@ -24,6 +24,14 @@ most-bytes = refl
 -- 01's Path: three buses in a row, needs 1
 path : List ℕ
 path = 3 ∷ 1 ∷ 1 ∷ 1 ∷ 0 ∷ 1 ∷ 3 ∷ 4 ∷ 1 ∷ 0 ∷ 2 ∷ 1 ∷ []
+
+-- its rows, laid out again
+pathRows : ℕ → List ℕ
+pathRows i = getD ((1 ∷ []) ∷ (0 ∷ 2 ∷ []) ∷ (1 ∷ []) ∷ []) i []
+
+path-laid : tableOf 3 (1 ∷ 1 ∷ 1 ∷ []) pathRows ≡ path
+unfolding path pathRows tableOf laid joinBelow mapBelow
+path-laid = refl
 
 -- one bus without lines, need 24; Path; Path with entries beyond
 networks : List (List ℕ)

@@ -1,17 +1,21 @@
 -- Where a line table has what: the bus count, the needs, the row starts, the neighbour numbers. Row starts begin at h, so that a section
 -- between needs and row starts moves one definition.
 -- Definitions only. Assumes nothing.
-use mathlib.Core.List.{List}
+use mathlib.Core.List.{List, _∷_, _++_}
 use Prim.Native.Nat.{ℕ, _+_}
 use lib.ListN.{length}
 use Rattle.lists.specs.Lists.{has, at, part}
-use Rattle.lists.specs.Below.{sumBelow, countBelow}
+use Rattle.lists.specs.Below.{sumBelow, countBelow, joinBelow, mapBelow}
 
 -- ---- rows that start at s among the neighbour numbers l, whatever table they stand in
 
 -- row i runs from start i up to, not including, start i + 1
 unfoldable pub rowAt : List ℕ → List ℕ → ℕ → List ℕ
 rowAt s l i = part (at s i) (at s (i + 1)) l
+
+-- the other way round: the starts of n rows, and the rows
+unfoldable pub laid : ℕ → (ℕ → List ℕ) → List ℕ
+laid n rows = mapBelow (n + 1) (λ i. length (joinBelow i rows)) ++ joinBelow n rows
 
 -- ---- a table whose row starts begin at h
 
@@ -55,3 +59,7 @@ degree t i = length (row t i)
 -- m, the number of lines: at each bus its neighbours below it, so that a line is counted once, at its higher bus
 unfoldable pub lines : List ℕ → ℕ
 lines t = sumBelow (size t) (λ i. countBelow i (λ j. has j (row t i)))
+
+-- the table of n buses with the needs q and these rows
+unfoldable pub tableOf : ℕ → List ℕ → (ℕ → List ℕ) → List ℕ
+tableOf n q rows = (n ∷ q) ++ laid n rows

@@ -9,3 +9,4 @@ pub mod Facts
 pub mod Calls
 pub mod Lines
 pub mod Beyond
+pub mod Laid

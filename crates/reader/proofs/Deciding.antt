@@ -12,8 +12,9 @@ use Rattle.lists.specs.Writes.{put-front, stored-list}
 use Rattle.refusals.specs.Outcomes.{Outcome, gives, refuses, Cause, outcome, valuesOr}
 use Rattle.refusals.specs.Causes.{first-refuses, then-decides}
 use Rattle.network.specs.Limits.{maxBuses}
-use Rattle.rows.specs.Held.{held, laid}
-use Rattle.rows.specs.HeldLaws.{length-laid, laid-same}
+use Rattle.network.specs.Layout.{laid, tableOf}
+use Rattle.network.specs.Laid.{length-laid, laid-same}
+use Rattle.rows.specs.Held.{held}
 use Rattle.file.specs.declared.Counts.{Counts}
 use Rattle.file.specs.Bytes.{busCount, needBytes, lineCount, records}
 use Rattle.file.specs.Sections.{sectionCauses, counts, sectionsOutcome, soundEnds}
@@ -107,7 +108,7 @@ module _ (f t : List ℕ) {n m : ℕ} {q r : List ℕ} (p : Parts f n m q r) whe
 
     -- the bus count and the needs, and then the rows, were written into the slice
     pub built : {t₁ t₂ : List ℕ} → t₁ ≡ put t 0 (length q ∷ q) → t₂ ≡ put t₁ (1 + n) (laid n (held slots counts)) → t₂ ≡ storedTable f t
-    unfolding storedTable fileTable
+    unfolding storedTable fileTable tableOf
     built u v =
         let long : length q ≡ n = ap length (p .needs) ∙ length-needBytes s ∙ sym (p .buses) in
         let front = length q ∷ q in

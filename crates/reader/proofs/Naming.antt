@@ -19,7 +19,7 @@ use Rattle.rows.specs.Held.{Blank}
 use Rattle.file.specs.Bytes.{firstEnd, secondEnd}
 use Rattle.file.specs.Sound.{ends-facts}
 use Rattle.reader.specs.Records.{names, crowded}
-use Rattle.reader.specs.Filling.{Ends, Named}
+use Rattle.reader.specs.Filling.{SoundRecords, Named}
 use Rattle.reader.specs.Pairs.{named-once}
 
 -- one more at a
@@ -35,7 +35,7 @@ unfolding sumBelow
 named-none r w = record { size = w .size; each = w .clear }
 
 -- x and y were read of record k, and one more counted at each
-module _ {n m : ℕ} {r : List ℕ} (g : Ends n m r) {k : ℕ} (b : k < m) {x y : ℕ} (e : (x ≡ firstEnd r k) × (y ≡ secondEnd r k)) where
+module _ {n m : ℕ} {r : List ℕ} (g : SoundRecords n m r) {k : ℕ} (b : k < m) {x y : ℕ} (e : (x ≡ firstEnd r k) × (y ≡ secondEnd r k)) where
   -- they are two different buses
   pub read-ends : (x < n) × (y < n) × (x ≡ y → ⊥)
   read-ends = let f = ends-facts n m r (g .sound) k b in (omega (arith, f .0, e .0), omega (arith, f .1, e .1), λ q. f .2 (sym (e .0) ∙ q ∙ e .1))

@@ -18,11 +18,11 @@ use Rattle.rows.specs.declared.Inserted.the-variants.{Added}
 use Rattle.rows.specs.Insertion.{insert}
 use Rattle.rows.specs.Inserting.{insert-listBelow-if}
 use Rattle.rows.specs.Held.{maxSlots, held, Blank, RowsAfter}
-use Rattle.rows.specs.HeldLaws.{held-blank, rows-blank, must-add}
+use Rattle.rows.specs.HeldRows.{held-blank, rows-blank, must-add}
 use Rattle.file.specs.Bytes.{firstEnd, secondEnd}
 use Rattle.file.specs.Sound.{ends-facts}
 use Rattle.reader.specs.Records.{names, joins, joined, neighbours, crowded, repeats}
-use Rattle.reader.specs.Filling.{Ends, Filled}
+use Rattle.reader.specs.Filling.{SoundRecords, Filled}
 use Rattle.reader.specs.Pairs.{joined-sym, joined-next, neighbours-few}
 use Rattle.reader.proofs.Naming.{read-ends}
 
@@ -49,7 +49,7 @@ row-next n k r {x} {y} e lx ly i =
     ∙ sym (joined-next k r i j))
 
 -- record k of sound ends, x and y, that crowds no bus
-module _ {n m : ℕ} {r : List ℕ} (g : Ends n m r) (free : crowded n m r ≡ false) {k : ℕ} (b : k < m) {x y : ℕ} (e : (x ≡ firstEnd r k) × (y ≡ secondEnd r k)) where
+module _ {n m : ℕ} {r : List ℕ} (g : SoundRecords n m r) (free : crowded n m r ≡ false) {k : ℕ} (b : k < m) {x y : ℕ} (e : (x ≡ firstEnd r k) × (y ≡ secondEnd r k)) where
   -- a bus that the record names has room for a neighbour more
   room : (z : ℕ) → z < n → names r z k ≡ true → length (neighbours n k r z) < maxDegree
   unfolding crowded

@@ -13,7 +13,7 @@ use Rattle.file.specs.Sections.{soundEnds}
 use Rattle.reader.specs.Records.{names, neighbours}
 
 -- m records of a network of n buses, whose ends are sound
-pub record Ends (n m : ℕ) (r : List ℕ) : Type 0 where
+pub record SoundRecords (n m : ℕ) (r : List ℕ) : Type 0 where
   pub buses : n ≤ maxBuses
   pub lines : m ≤ maxLines
   pub sound : soundEnds n m r ≡ true

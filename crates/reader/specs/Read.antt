@@ -9,9 +9,8 @@ use lib.ListN.{length, drop}
 use Rattle.lists.specs.Lists.{has}
 use Rattle.refusals.specs.declared.Refusal.the-variants.{LineEnds, CrowdedBus, RepeatedLine, TableTooShort}
 use Rattle.refusals.specs.Outcomes.{Outcome, Cause, _⇒_, outcome, valuesOr}
-use Rattle.network.specs.Layout.{size, needs, row, lines}
+use Rattle.network.specs.Layout.{size, needs, row, lines, tableOf}
 use Rattle.network.specs.Holds.{Holds}
-use Rattle.rows.specs.Held.{laid}
 use Rattle.file.specs.declared.Counts.{Counts}
 use Rattle.file.specs.Bytes.{busCount, needBytes, lineCount, records}
 use Rattle.file.specs.Sections.{sectionCauses, counts, soundEnds}
@@ -37,9 +36,9 @@ readCauses f lent = sectionCauses f ++ recordCauses f lent
 abbrev pub readOutcome : List ℕ → ℕ → Outcome Counts
 readOutcome f lent = outcome (readCauses f lent) (counts f)
 
--- n; then n needs; then n + 1 row starts and the neighbour numbers
+-- the file's table: its buses, the needs as recorded, and for each bus the neighbours that the records give it
 unfoldable pub fileTable : List ℕ → List ℕ
-fileTable f = (busCount f ∷ needBytes f) ++ laid (busCount f) (neighbours (busCount f) (lineCount f) (records f))
+fileTable f = tableOf (busCount f) (needBytes f) (neighbours (busCount f) (lineCount f) (records f))
 
 -- in a slice that held t: the file's table, followed by the old rest
 unfoldable pub storedTable : List ℕ → List ℕ → List ℕ
@@ -50,7 +49,7 @@ abbrev pub tableAfter : List ℕ → List ℕ → List ℕ
 tableAfter f t = valuesOr t (outcome (readCauses f (length t)) (storedTable f t))
 
 -- the slice t holds exactly the buses, needs and lines that the file f records
-pub record Records (f t : List ℕ) : Type 0 where
+pub record AsRecorded (f t : List ℕ) : Type 0 where
   pub holding : Holds t
   pub buses : size t ≡ busCount f
   pub needed : needs t ≡ needBytes f

@@ -1,33 +1,32 @@
 -- What Read stored is what the file records. Assumes nothing.
 use mathlib.Core.Bool.{true, false, _&&_}
-use mathlib.Core.List.{List, _∷_, _++_, append-assoc}
+use mathlib.Core.List.{List, _++_}
 use mathlib.Core.Logic.{⊎-elim}
 use mathlib.Core.Path.{_≡_, sym, ap, _∙_}
-use Prim.Native.Nat.{ℕ, _≤_, _<_}
+use Prim.Native.Nat.{ℕ, _+_, _*_, _≤_, _<_}
 use native.Mathlib.Omega.{arith}
 use borrow.Author.Tests.{ltb-true, ltb-false, eqb-true, not-false}
 use lib.Dec.{ltb, eqb}
 use lib.ListN.{length, drop}
 use Rattle.lists.specs.Lists.{has}
-use Rattle.lists.specs.Below.{countBelow}
+use Rattle.lists.specs.Below.{countBelow, joinBelow}
 use Rattle.lists.specs.Tests.{split, fails, and-left, and-right, or-cases}
 use Rattle.lists.specs.Loops.{anyBelow-at, anyBelow-none}
 use Rattle.lists.specs.Range.{count-listBelow, has-listBelow, listBelow-in, listBelow-ascends}
-use Rattle.refusals.specs.Outcomes.{gives, valuesOr}
-use Rattle.refusals.specs.Causes.{NoneHolds, no-cause, none-gives, none-both}
+use Rattle.refusals.specs.Outcomes.{gives, refuses, valuesOr}
+use Rattle.refusals.specs.Causes.{NoneHolds, no-cause, none-gives, none-both, refuses-any}
 use Rattle.network.specs.Limits.{maxDegree}
-use Rattle.network.specs.Layout.{needs}
+use Rattle.network.specs.Layout.{tableOf}
 use Rattle.network.specs.Holds.{TidyRow, Holds}
 use Rattle.network.specs.Facts.{fair-facts}
+use Rattle.network.specs.Laid.{length-tableOf, made-size, made-needs, made-last, made-row, made-holds}
 use Rattle.network.specs.Lines.{two-for-each}
-use Rattle.rows.specs.Held.{laid}
-use Rattle.rows.specs.Laid.{made-size, made-needs, made-last, made-row, made-holds}
 use Rattle.file.specs.declared.Counts.{Counts}
 use Rattle.file.specs.Bytes.{busCount, needBytes, lineCount, records, firstEnd, secondEnd}
 use Rattle.file.specs.Sections.{sectionCauses, counts, soundEnds}
 use Rattle.file.specs.Sound.{Sound, sections-sound, length-needBytes, ends-facts}
 use Rattle.reader.specs.Records.{names, joins, joined, neighbours, crowded}
-use Rattle.reader.specs.Read.{recordCauses, readCauses, readOutcome, fileTable, storedTable, tableAfter, Records}
+use Rattle.reader.specs.Read.{recordCauses, readCauses, readOutcome, fileTable, storedTable, tableAfter, AsRecorded}
 use Rattle.reader.specs.Pairs.{joined-sym, neighbours-few, rows-length}
 
 -- records whose ends are sound and that crowd no bus
@@ -102,27 +101,39 @@ module _ (f t : List ℕ) {c : Counts} (e : readOutcome f (length t) ≡ gives c
   abbrev rest : List ℕ
   rest = drop (length (fileTable f)) t
 
-  stored : tableAfter f t ≡ (n ∷ q) ++ (laid n rows ++ rest)
+  stored : tableAfter f t ≡ tableOf n q rows ++ rest
   unfolding storedTable fileTable
-  stored = ap (valuesOr t) (none-gives (readCauses f (length t)) (storedTable f t) none) ∙ append-assoc (n ∷ q) (laid n rows) rest
+  stored = ap (valuesOr t) (none-gives (readCauses f (length t)) (storedTable f t) none)
 
   long : length q ≡ n
   long = length-needBytes whole
 
-  held : Holds ((n ∷ q) ++ (laid n rows ++ rest))
+  held : Holds (tableOf n q rows ++ rest)
   held =
       made-holds n q rows rest long (whole .some) (whole .buses) (fair-facts q (whole .needs))
       (λ i b. neighbours-tidy n m r ends i) (neighbours-short n m r ends (apart .1 .1 .0))
       (λ i j b c. neighbours-joined n m r ends i j ∙ joined-sym m r i j ∙ sym (neighbours-joined n m r ends j i))
 
+  numbers : length (joinBelow n rows) ≡ 2 * m
+  numbers = rows-length n m r (ends-facts n m r ends) (apart .1 .1 .1 .0)
+
+  -- the table has as many entries as refusal 10 asks for
+  pub entries : length (fileTable f) ≡ 2 * n + 2 + 2 * m
+  unfolding fileTable
+  entries = omega (arith, length-tableOf n q rows long, numbers)
+
   -- the slice holds exactly what the file records
-  pub recorded : Records f (tableAfter f t)
+  pub recorded : AsRecorded f (tableAfter f t)
   recorded =
       rw stored
       record {
         holding = held;
         buses = made-size n q rows rest long;
         needed = made-needs n q rows rest long;
-        lined = omega (arith, two-for-each _ held, made-last n q rows rest long, rows-length n m r (ends-facts n m r ends) (apart .1 .1 .1 .0));
+        lined = omega (arith, two-for-each _ held, made-last n q rows rest long, numbers);
         joining = λ i j b. ap (has j) (made-row n q rows rest long i b) ∙ neighbours-joined n m r ends i j;
       }
+
+-- a refused Read changes nothing
+pub kept : (f t : List ℕ) {k : ℕ} → readOutcome f (length t) ≡ refuses k → tableAfter f t ≡ t
+kept f t e = ap (valuesOr t) (refuses-any (readCauses f (length t)) (counts f) (storedTable f t) e)

@@ -15,7 +15,7 @@ ghost use Rattle.file.specs.Sections.{counts, readingSays};
 ghost use Rattle.file.specs.Sound.{Sound};
 ghost use Rattle.reader.specs.Records.{crowded, repeated};
 ghost use Rattle.reader.specs.Read.{recordCauses, readOutcome, storedTable, tableAfter};
-ghost use Rattle.reader.specs.Filling.{Ends, Named, Filled};
+ghost use Rattle.reader.specs.Filling.{SoundRecords, Named, Filled};
 pub use file::Counts;
 pub use file::Reading;
 use file::ends_of;
@@ -31,7 +31,7 @@ use rows::store;
 
 // Counts, for each bus, the records that name it.
 fn count_names(records: &[u8], n: usize, m: usize, counts: &mut [u16; Network::BUSES])
-    requires { ⌜ (4 * m ≤ length (now records)) × Ends n m (now records) × Blank (now counts) ⌝ }
+    requires { ⌜ (4 * m ≤ length (now records)) × SoundRecords n m (now records) × Blank (now counts) ⌝ }
     ensures { λ _. ⌜ Named m (now (records .entry)) (now (counts .exit)) ⌝ }
 {
     let mut k = 0;
@@ -60,7 +60,7 @@ fn too_many(counts: &[u16; Network::BUSES], n: usize) -> bool
 
 // Whether some bus stands in more records than it may have lines.
 fn crowded(records: &[u8], n: usize, m: usize) -> bool
-    requires { ⌜ (4 * m ≤ length (now records)) × Ends n m (now records) ⌝ }
+    requires { ⌜ (4 * m ≤ length (now records)) × SoundRecords n m (now records) ⌝ }
     ensures { λ b. ⌜ b ≡ crowded n m (now (records .entry)) ⌝ }
 {
     let mut counts = blank_counts();
@@ -76,7 +76,7 @@ fn fill(
     slots: &mut [u16],
     counts: &mut [u16; Network::BUSES],
 ) -> bool
-    requires { ⌜ (4 * m ≤ length (now records)) × Ends n m (now records) × (crowded n m (now records) ≡ false) ⌝ }
+    requires { ⌜ (4 * m ≤ length (now records)) × SoundRecords n m (now records) × (crowded n m (now records) ≡ false) ⌝ }
     requires { ⌜ (length (now slots) ≡ maxSlots) × Blank (now counts) ⌝ }
     ensures { λ b. ⌜ (b ≡ not (repeated m (now (records .entry)))) × (b ≡ true → Filled n m (now (records .entry)) (now (slots .exit)) (now (counts .exit))) ⌝ }
 {

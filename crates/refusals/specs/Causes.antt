@@ -1,6 +1,6 @@
 -- Laws of the first cause. Assumes nothing.
 use mathlib.Core.Bool.{Bool, true, false, cond, true≢false}
-use mathlib.Core.List.{List, [], _∷_, _++_}
+use mathlib.Core.List.{List, [], _∷_, _++_, append-nil}
 use mathlib.Core.Path.{_≡_, refl, sym, ap, _∙_}
 use Prim.Native.Nat.{ℕ}
 use Rattle.refusals.specs.declared.Refusal.{Refusal}
@@ -73,3 +73,7 @@ module _ {A B : Type 0} where
     -- where it gives values, the second decides
     pub then-decides : (cs : List Cause) {w : A} → outcome cs u ≡ gives w → outcome (cs ++ ds) v ≡ outcome ds v
     then-decides cs e = joined cs ∙ ap (λ (x : Outcome A). orElse x (outcome ds v)) e
+
+-- whether a call is refused does not hang on its values
+pub refuses-any : {A B : Type 0} (cs : List Cause) (u : A) (v : B) {k : ℕ} → outcome cs u ≡ refuses k → outcome cs v ≡ refuses k
+refuses-any cs u v e = ap (λ l. outcome l v) (sym (append-nil cs)) ∙ first-refuses [] u v cs e

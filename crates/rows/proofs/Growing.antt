@@ -18,7 +18,7 @@ use Rattle.rows.specs.declared.Inserted.the-variants.{Added, Present, Fu
 use Rattle.rows.specs.Insertion.{insert, RowAfter}
 use Rattle.rows.specs.Inserting.{insert-length, insert-ascends}
 use Rattle.rows.specs.Held.{held, Rows, Grown, RowsAfter}
-use Rattle.rows.specs.HeldLaws.{held-part, held-length}
+use Rattle.rows.specs.HeldRows.{held-part, held-length}
 
 -- where the slots of bus i begin
 abbrev from : ℕ → ℕ

@@ -1,13 +1,12 @@
 -- The rows of all buses in local arrays: `slots` has as many slots for each bus as it may have lines, and `counts` says how many it has taken.
 -- Definitions only. Assumes nothing.
 use mathlib.Core.Bool.{true, false, cond}
-use mathlib.Core.List.{List, _++_}
+use mathlib.Core.List.{List}
 use mathlib.Core.Path.{_≡_}
-use Prim.Native.Nat.{ℕ, _+_, _*_, _≤_, _<_}
+use Prim.Native.Nat.{ℕ, _*_, _≤_, _<_}
 use lib.Dec.{eqb}
 use lib.ListN.{length, take, drop}
 use Rattle.lists.specs.Lists.{has, at, Ascending}
-use Rattle.lists.specs.Below.{joinBelow, mapBelow}
 use Rattle.network.specs.Limits.{maxBuses, maxDegree}
 use Rattle.rows.specs.declared.Inserted.{Inserted}
 use Rattle.rows.specs.declared.Inserted.the-variants.{Added, Present, Full}
@@ -46,7 +45,3 @@ RowsAfter Present x i slots counts slots′ counts′ =
     (has x (held slots counts i) ≡ true) × (slots′ ≡ slots) × (counts′ ≡ counts)
 RowsAfter Full x i slots counts slots′ counts′ =
     (has x (held slots counts i) ≡ false) × (length (held slots counts i) ≡ maxDegree) × (slots′ ≡ slots) × (counts′ ≡ counts)
-
--- the row starts and the rows of n buses, as a line table has them behind its needs
-unfoldable pub laid : ℕ → (ℕ → List ℕ) → List ℕ
-laid n rows = mapBelow (n + 1) (λ i. length (joinBelow i rows)) ++ joinBelow n rows

@@ -3,5 +3,4 @@ pub mod Held
 pub mod Shifting
 pub mod Examples
 pub mod Inserting
-pub mod HeldLaws
-pub mod Laid
+pub mod HeldRows

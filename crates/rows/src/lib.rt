@@ -4,10 +4,11 @@ ghost use Prim.Native.Nat.{_+_, _≤_, _<_};
 ghost use lib.ListN.{length, set, take};
 ghost use Rattle.lists.specs.Lists.{at, Ascending, put};
 ghost use Rattle.lists.specs.Below.{sumBelow, joinBelow, mapBelow};
-ghost use Rattle.network.specs.Limits.{maxBuses, maxDegree};
+ghost use Rattle.network.specs.Limits.{maxBuses};
+ghost use Rattle.network.specs.Layout.{laid};
 ghost use Rattle.rows.specs.Insertion.{isAdded, RowAfter};
 ghost use Rattle.rows.specs.Shifting.{Place, insertAt};
-ghost use Rattle.rows.specs.Held.{maxSlots, held, Rows, Blank, RowsAfter, laid};
+ghost use Rattle.rows.specs.Held.{maxSlots, held, Rows, Blank, RowsAfter};
 use network::Network;
 
 // What inserting a number into a row did.

@@ -11,7 +11,7 @@ use Rattle.lists.specs.Tests.{passed, failed}
 use Rattle.network.specs.Limits.{maxBuses}
 use Rattle.rows.specs.declared.Inserted.the-variants.{Added}
 use Rattle.rows.specs.Held.{RowsAfter}
-use Rattle.rows.specs.HeldLaws.{was-added, must-have}
+use Rattle.rows.specs.HeldRows.{was-added, must-have}
 use Rattle.reader.specs.Records.{repeated}
 use Rattle.reader.specs.Filling.{Filled}
 use Rattle.reader.proofs.Naming.{read-ends}

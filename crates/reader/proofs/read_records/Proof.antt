@@ -13,7 +13,7 @@ use Rattle.lists.specs.Tests.{passed, failed}
 use Rattle.file.specs.Sections.{soundEnds}
 use Rattle.file.specs.Sound.{length-needBytes, length-records}
 use Rattle.reader.specs.Records.{crowded, repeated}
-use Rattle.reader.specs.Filling.{Ends, Filled}
+use Rattle.reader.specs.Filling.{SoundRecords, Filled}
 use Rattle.reader.proofs.Deciding.{Parts, parts-read, wrong-ends, crowded-bus, repeated-line, short-table, laid-length, accepted, built}
 use Rattle.reader.proofs.read_records.Statement.{statement}
 use Rattle.reader.proofs.read_records.Tie as tie
@@ -57,7 +57,7 @@ once c = not-true _ (sym (c .before .before .fill .ensures .0) ∙ not-false _ (
 long : (s : tie.Start) → 4 * s .args .m ≤ length (records-of s)
 long s = omega (arith, ap length (parts s .pairs), length-records (s .pre .0), s .pre .2)
 
-ends : (c : tie.Else1) → let s = start1 c in Ends (s .args .n) (s .args .m) (records-of s)
+ends : (c : tie.Else1) → let s = start1 c in SoundRecords (s .args .n) (s .args .m) (records-of s)
 ends c =
     let h = start1 c .pre in record { buses = omega (arith, h .0 .buses, h .1); lines = omega (arith, h .0 .lines, h .2); sound = sound c }
 

@@ -10,8 +10,10 @@ use Rattle.lists.specs.Below.{joinBelow, mapBelow}
 use Rattle.lists.specs.Range.{sumBelow-le, sumBelow-const, length-mapBelow, mapBelow-same}
 use Rattle.lists.specs.Writes.{stored-length, stored-list}
 use Rattle.network.specs.Limits.{maxDegree}
-use Rattle.rows.specs.Held.{held, laid}
-use Rattle.rows.specs.HeldLaws.{held-sum, length-laid}
+use Rattle.network.specs.Layout.{laid}
+use Rattle.network.specs.Laid.{length-laid}
+use Rattle.rows.specs.Held.{held}
+use Rattle.rows.specs.HeldRows.{held-sum}
 use Rattle.rows.proofs.store.Statement.{statement}
 use Rattle.rows.proofs.store.Tie as tie
 
@@ -33,6 +35,12 @@ module _ (c : tie.After-store-starts) where
   next : start c .args .h + start c .args .n + 1 ≡ start c .args .h + length vs
   next = omega (arith, length-mapBelow (start c .args .n + 1) (λ i. length (joinBelow i (rows (start c)))))
 
+  -- and then the rows
+  joined : put (c .store-starts .last .1 .1 .0) (start c .args .h + start c .args .n + 1) (joinBelow (start c .args .n) (rows (start c)))
+      ≡ put (start c .args .table .now) (start c .args .h) (laid (start c .args .n) (rows (start c)))
+  unfolding laid
+  joined = stored-list _ _ _ begun next _ (omega (arith, start c .pre .1))
+
 store-starts-requires : tie.Need-store-starts-requires
 store-starts-requires c κs =
     let s = c .before .before .before in
@@ -50,12 +58,7 @@ store-rows-requires c κs =
     (s .pre .0, omega (arith, s .pre .1, stored-length _ _ _ (begun p) (next p) (omega (arith, s .pre .1))))
 
 returns : tie.Need-returns
-unfolding laid
-returns c =
-    let p = c .before .before .before .before .before .before in
-    let s = start p in
-    c .before .before .store-rows .ensures
-    ∙ stored-list _ _ _ (begun p) (next p) (joinBelow (s .args .n) (rows s)) (omega (arith, s .pre .1))
+returns c = c .before .before .store-rows .ensures ∙ joined (c .before .before .before .before .before .before)
 
 pub store-spec : {M : Type 1} → statement M
 store-spec =

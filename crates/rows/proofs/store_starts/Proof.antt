@@ -27,7 +27,7 @@ next : (c : tie.At-loop Inv-loop μ-loop) → let h = c .before .args .h in let 
 next c = omega (arith, length-mapBelow (c .loop .bus + 1) (λ i. sumBelow i (at (c .before .args .counts .now))))
 
 size : (c : tie.At-loop Inv-loop μ-loop) → length (c .loop .table) ≡ length (c .before .args .table .now)
-size c = stored-length _ _ _ (c .loop .inv .2) (next c) (simp length-set (omega (arith, c .before .pre .0 .1, c .loop .inv .0))) ∙ length-set (c .before .args .table .now) (c .before .args .h) 0
+size c = stored-length _ _ _ (c .loop .inv .2) (next c) (simp length-set (omega (arith, c .before .pre .0 .1, c .loop .inv .0))) ∙ simp length-set
 
 -- the next start
 sum : (c : tie.In-loop Inv-loop μ-loop) → let counts = c .before .before .args .counts .now in

@@ -1,20 +1,20 @@
--- Laws of the rows in their slots, and of rows laid out. Assumes nothing.
+-- Laws of the rows in their slots. Assumes nothing.
 use mathlib.Core.Bool.{true, false, true≢false}
-use mathlib.Core.List.{List, [], _++_}
-use mathlib.Core.Path.{_≡_, ap, ap₂, _∙_, sym}
+use mathlib.Core.List.{List, []}
+use mathlib.Core.Path.{_≡_, ap, _∙_, sym}
 use Prim.Native.Nat.{ℕ, _+_, _-_, _*_, _≤_, _<_}
 use native.Mathlib.Omega.{arith}
-use lib.ListN.{length, take, drop, length-append, length-drop}
+use lib.ListN.{length, take, drop, length-drop}
 use lib.Seq.{length-take-le}
 use Rattle.lists.specs.Lists.{has, at, part}
-use Rattle.lists.specs.Below.{sumBelow, joinBelow, mapBelow}
+use Rattle.lists.specs.Below.{sumBelow, joinBelow}
 use Rattle.lists.specs.Tests.{never-both}
-use Rattle.lists.specs.Range.{sumBelow-same, length-joinBelow, length-mapBelow, joinBelow-same, mapBelow-same}
+use Rattle.lists.specs.Range.{sumBelow-same, length-joinBelow}
 use Rattle.network.specs.Limits.{maxBuses, maxDegree}
 use Rattle.rows.specs.declared.Inserted.{Inserted}
 use Rattle.rows.specs.declared.Inserted.the-variants.{Added, Present, Full}
 use Rattle.rows.specs.Insertion.{isAdded}
-use Rattle.rows.specs.Held.{maxSlots, held, Rows, Blank, RowsAfter, laid}
+use Rattle.rows.specs.Held.{maxSlots, held, Rows, Blank, RowsAfter}
 
 -- a row is a part of the slots
 pub held-part : (slots counts : List ℕ) (i : ℕ) → held slots counts i ≡ part (i * maxDegree) (i * maxDegree + at counts i) slots
@@ -22,6 +22,7 @@ unfolding held
 held-part slots counts i =
     let e : at counts i ≡ i * maxDegree + at counts i - i * maxDegree = omega arith in ap (λ k. take k (drop (i * maxDegree) slots)) e
 
+-- and as long as its count says
 pub held-length : {slots counts : List ℕ} {i : ℕ} → Rows slots counts → i < maxBuses → length (held slots counts i) ≡ at counts i
 unfolding held
 held-length {slots} {counts} {i} w l =
@@ -47,6 +48,8 @@ rows-blank {slots} {counts} e w =
       ascends = λ i l j k a b. absurd (omega (arith, ap length (held-blank slots w i)));
     }
 
+-- ---- what the answer to an insertion must be
+
 -- what was added was added
 pub was-added : (r : Inserted) (x i : ℕ) (slots counts slots′ counts′ : List ℕ)
     → isAdded r ≡ true → RowsAfter r x i slots counts slots′ counts′ → RowsAfter Added x i slots counts slots′ counts′
@@ -69,15 +72,3 @@ pub must-have : (r : Inserted) (x i : ℕ) (slots counts slots′ counts′ : Li
 must-have Added x i slots counts slots′ counts′ e l o = absurd (true≢false e)
 must-have Present x i slots counts slots′ counts′ e l o = o .0
 must-have Full x i slots counts slots′ counts′ e l o = absurd (omega (arith, o .1))
-
--- ---- laid out
-
-pub length-laid : (f : ℕ → List ℕ) (n : ℕ) → length (laid n f) ≡ n + 1 + length (joinBelow n f)
-unfolding laid
-length-laid f n =
-    length-append (mapBelow (n + 1) (λ i. length (joinBelow i f))) (joinBelow n f) ∙ ap (λ k. k + length (joinBelow n f)) (length-mapBelow (n + 1) _)
-
-pub laid-same : (f g : ℕ → List ℕ) (n : ℕ) → ((i : ℕ) → i < n → f i ≡ g i) → laid n f ≡ laid n g
-unfolding laid
-laid-same f g n h =
-    ap₂ _++_ (mapBelow-same _ _ (n + 1) (λ i l. ap length (joinBelow-same f g i (λ j m. h j (omega arith))))) (joinBelow-same f g n h)

@@ -1,19 +1,27 @@
 -- Rows laid out in a line table are read back as they were, and make a network if they are a network's. Assumes nothing.
 use mathlib.Core.List.{List, [], _∷_, _++_, append-assoc, append-nil}
 use mathlib.Core.Path.{_≡_, refl, sym, ap, ap₂, _∙_}
-use Prim.Native.Nat.{ℕ, _+_, _-_, _≤_, _<_}
+use Prim.Native.Nat.{ℕ, _+_, _-_, _*_, _≤_, _<_}
 use native.Mathlib.Omega.{arith}
 use lib.ListN.{length, take, drop, length-append}
 use Rattle.lists.specs.Lists.{has, at, part}
 use Rattle.lists.specs.Below.{joinBelow, mapBelow}
 use Rattle.lists.specs.Places.{at-append, at-behind, part-between}
 use Rattle.lists.specs.Loops.{joinBelow-next}
-use Rattle.lists.specs.Range.{length-mapBelow, mapBelow-at, joinBelow-at}
+use Rattle.lists.specs.Range.{length-mapBelow, mapBelow-at, joinBelow-at, mapBelow-same, joinBelow-same}
 use Rattle.network.specs.Limits.{maxBuses, maxDegree}
-use Rattle.network.specs.Layout.{rowAt, size, needs, starts, last, links, startsAt, row}
+use Rattle.network.specs.Layout.{rowAt, laid, size, needs, starts, last, links, startsAt, row, tableOf}
 use Rattle.network.specs.Holds.{FairNeeds, TidyRow, SoundRows, Holds}
-use Rattle.rows.specs.Held.{laid}
-use Rattle.rows.specs.HeldLaws.{length-laid}
+
+pub length-laid : (f : ℕ → List ℕ) (n : ℕ) → length (laid n f) ≡ n + 1 + length (joinBelow n f)
+unfolding laid
+length-laid f n =
+    length-append (mapBelow (n + 1) (λ i. length (joinBelow i f))) (joinBelow n f) ∙ ap (λ k. k + length (joinBelow n f)) (length-mapBelow (n + 1) _)
+
+pub laid-same : (f g : ℕ → List ℕ) (n : ℕ) → ((i : ℕ) → i < n → f i ≡ g i) → laid n f ≡ laid n g
+unfolding laid
+laid-same f g n h =
+    ap₂ _++_ (mapBelow-same _ _ (n + 1) (λ i l. ap length (joinBelow-same f g i (λ j m. h j (omega arith))))) (joinBelow-same f g n h)
 
 module _ (n : ℕ) (rows : ℕ → List ℕ) where
   abbrev firsts : List ℕ
@@ -80,37 +88,45 @@ module _ (n : ℕ) (rows : ℕ → List ℕ) where
           tidy = λ i b. rw (row-back i b) (tidy i b);
         }
 
--- n, the needs q, the rows laid out, and whatever follows
+pub length-tableOf : (n : ℕ) (q : List ℕ) (rows : ℕ → List ℕ) → length q ≡ n → length (tableOf n q rows) ≡ 2 * n + 2 + length (joinBelow n rows)
+unfolding tableOf
+length-tableOf n q rows long = omega (arith, length-append q (laid n rows), length-laid rows n, long)
+
+-- a network's table, and whatever follows
 module _ (n : ℕ) (q : List ℕ) (rows : ℕ → List ℕ) (rest : List ℕ) (long : length q ≡ n) where
   abbrev made : List ℕ
-  made = (n ∷ q) ++ (laid n rows ++ rest)
+  made = tableOf n q rows ++ rest
 
-  begins : startsAt made ≡ length (n ∷ q)
-  unfolding at
-  begins = omega (arith, long)
+  shape : made ≡ (n ∷ q) ++ (laid n rows ++ rest)
+  unfolding tableOf
+  shape = append-assoc (n ∷ q) (laid n rows) rest
 
   pub made-size : size made ≡ n
-  unfolding at
+  unfolding tableOf at
   made-size = refl
 
+  begin : startsAt made ≡ length (n ∷ q)
+  begin = omega (arith, made-size, long)
+
   pub made-needs : needs made ≡ q
-  unfolding needs at
-  made-needs = part-between (n ∷ []) q (laid n rows ++ rest) {e = 1 + n} refl (omega (arith, long))
+  unfolding needs
+  made-needs = ap₂ (λ k t. part 1 (1 + k) t) made-size shape ∙ part-between (n ∷ []) q (laid n rows ++ rest) {e = 1 + n} refl (omega (arith, long))
 
   pub made-last : last (startsAt made) made ≡ length (joinBelow n rows)
-  made-last = last-back n rows (n ∷ q) rest refl begins made-size
+  made-last = last-back n rows (n ∷ q) rest shape begin made-size
 
   pub made-row : (i : ℕ) → i < n → row made i ≡ rows i
   unfolding row
-  made-row i b = rows-back n rows (n ∷ q) rest refl begins made-size i b
+  made-row i b = rows-back n rows (n ∷ q) rest shape begin made-size i b
 
+  -- rows that a network may have make one
   pub made-holds : 1 ≤ n → n ≤ maxBuses → FairNeeds q → ((i : ℕ) → i < n → TidyRow n i (rows i)) → ((i : ℕ) → i < n → length (rows i) ≤ maxDegree)
       → ((i j : ℕ) → i < n → j < n → has j (rows i) ≡ has i (rows j)) → Holds made
-  unfolding row at
+  unfolding tableOf row at
   made-holds least most fair tidy short mirror =
       record {
-        complete = record { least = least; most = most; whole = omega (arith, made-last, long, length-append q (laid n rows ++ rest), length-append (laid n rows) rest, length-laid rows n) };
+        complete = record { least = least; most = most; whole = omega (arith, made-last, length-tableOf n q rows long, length-append (tableOf n q rows) rest) };
         fair = rw made-needs fair;
-        rows = rows-sound n rows (n ∷ q) rest refl begins made-size tidy short;
+        rows = rows-sound n rows (n ∷ q) rest shape begin made-size tidy short;
         mirrored = λ i j b c. ap (has j) (made-row i b) ∙ mirror i j b c ∙ sym (ap (has i) (made-row j c));
       }
