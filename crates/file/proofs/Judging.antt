@@ -6,15 +6,14 @@ use Prim.Native.Nat.{ℕ, _+_, _≤_, _<_}
 use borrow.Author.Tests.{lt-ltb, le-ltb}
 use native.Mathlib.Omega.{arith}
 use lib.ListN.{length}
-use Rattle.lists.specs.Lists.{part}
 use Rattle.lists.specs.Tests.{fails}
 use Rattle.refusals.specs.declared.Refusal.{Refusal}
 use Rattle.refusals.specs.Numbers.{numberOf}
 use Rattle.refusals.specs.Outcomes.{gives, refuses, Cause, _⇒_, outcome}
 use Rattle.refusals.specs.Causes.{stops, goes-on}
-use Rattle.network.specs.Holds.{within, fairNeeds}
+use Rattle.network.specs.Holds.{within}
 use Rattle.network.specs.Facts.{within-facts, within-test}
-use Rattle.file.specs.Bytes.{wordAt, busCount, needBytes, lineCount}
+use Rattle.file.specs.Bytes.{wordAt, busCount, lineCount}
 use Rattle.file.specs.Sections.{endsBefore, goesOn, sectionCauses, counts, sectionsOutcome}
 
 -- the causes left to decide on a file
@@ -60,16 +59,11 @@ module _ (a b x : ℕ) where
   pub over : b < x → not (within a b x) ≡ true
   over h = ap not (fails (within a b x) (λ w. let z = within-facts a b x w in omega arith))
 
--- ---- the sections, as code reads them: the bus count was read into n, the line count into m, and b is the test of the needs
+-- ---- the counts, as code reads them: the bus count into n, the line count into m
 
-module _ (f : List ℕ) {n : ℕ} (e : n ≡ busCount f) where
-  pub needs-read : {b : Bool} → b ≡ fairNeeds (part 2 (2 + n) f) → b ≡ fairNeeds (needBytes f)
-  unfolding needBytes
-  needs-read h = h ∙ ap (λ (k : ℕ). fairNeeds (part 2 (2 + k) f)) e
+module _ (f : List ℕ) {n m : ℕ} (e : n ≡ busCount f) (h : m ≡ wordAt f (2 + n)) where
+  pub lines-read : m ≡ lineCount f
+  lines-read = h ∙ ap (λ k. wordAt f (2 + k)) e
 
-  module _ {m : ℕ} (h : m ≡ wordAt f (2 + n)) where
-    pub lines-read : m ≡ lineCount f
-    lines-read = h ∙ ap (λ (k : ℕ). wordAt f (2 + k)) e
-
-    pub accepted : Left f [] → gives (record { buses = n; lines = m }) ≡ sectionsOutcome f
-    accepted w = ap₂ (λ (k l : ℕ). gives (record { buses = k; lines = l })) e lines-read ∙ sym (w .decide)
+  pub accepted : Left f [] → gives (record { buses = n; lines = m }) ≡ sectionsOutcome f
+  accepted w = ap₂ (λ k l. gives (record { buses = k; lines = l })) e lines-read ∙ sym (w .decide)

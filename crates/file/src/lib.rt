@@ -4,7 +4,8 @@ ghost use Prim.Native.Nat.{_+_, _*_, _≤_, _<_};
 ghost use lib.ListN.{length};
 ghost use Rattle.network.specs.Limits.{maxNeed};
 ghost use Rattle.network.specs.Holds.{within, fairNeeds};
-ghost use Rattle.file.specs.Bytes.{wordAt, firstEnd, secondEnd};
+ghost use Rattle.file.specs.Bytes.{wordAt, busCount, needsEnd, needBytes, records, firstEnd, secondEnd};
+ghost use Rattle.file.specs.Sound.{Sound};
 ghost use Rattle.file.specs.Sections.{readingSays, sectionsOutcome, twoBuses, soundEnds};
 use network::Network;
 pub use network::Refusal;
@@ -35,6 +36,22 @@ pub fn word(bytes: &[u8], i: usize) -> usize
     let low = bytes[i] as usize;
     let high = bytes[i + 1] as usize;
     low + high * 256
+}
+
+// The need bytes of a file of n buses.
+pub fn needs(file: &[u8], n: usize) -> &[u8]
+    requires { ⌜ (n ≡ busCount (now file)) × (needsEnd (now file) ≤ length (now file)) ⌝ }
+    ensures { λ r. ⌜ now r ≡ needBytes (now (file .entry)) ⌝ }
+{
+    &file[2..2 + n]
+}
+
+// The bytes of the records of a file of n buses.
+pub fn records(file: &[u8], n: usize) -> &[u8]
+    requires { ⌜ (n ≡ busCount (now file)) × Sound (now file) ⌝ }
+    ensures { λ r. ⌜ now r ≡ records (now (file .entry)) ⌝ }
+{
+    &file[2 + n + 2..file.len()]
 }
 
 // Whether this is a need that a bus may have.
@@ -79,7 +96,7 @@ pub fn judge(file: &[u8]) -> Reading
     if file.len() < needs_end {
         return Reading::Refused(Refusal::FileTooShort);
     }
-    if !fair_needs(&file[2..needs_end]) {
+    if !fair_needs(needs(file, buses)) {
         return Reading::Refused(Refusal::Need);
     }
     let records = needs_end + 2;

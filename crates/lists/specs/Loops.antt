@@ -1,6 +1,6 @@
 -- Laws for loops that count up to a bound: the start, a turn, the end, and what a test over the numbers below the bound says.
 -- Assumes nothing.
-use mathlib.Core.Bool.{Bool, true, false, cond, _&&_, _||_, true≢false}
+use mathlib.Core.Bool.{Bool, true, false, _&&_, _||_, true≢false}
 use mathlib.Core.List.{List, [], _∷_, _++_}
 use mathlib.Core.Logic.{_⊎_, ⊎-elim}
 use mathlib.Core.Path.{_≡_, refl, sym, subst, _∙_}
@@ -10,7 +10,7 @@ use native.Mathlib.Numerals.{add-one}
 use native.Mathlib.Omega.{arith}
 use lib.ListN.{length, take}
 use Rattle.lists.specs.Lists.{sumBy, at}
-use Rattle.lists.specs.Below.{allBelow, anyBelow, sumBelow, joinBelow, mapBelow, listBelow}
+use Rattle.lists.specs.Below.{allBelow, anyBelow, sumBelow, joinBelow, mapBelow}
 use Rattle.lists.specs.Tests.{split, fails, never-both, and-both, and-left, and-right, or-left, or-right}
 use Rattle.lists.specs.Sums.{sumBy-append}
 use Rattle.lists.specs.Places.{take-next}
@@ -37,18 +37,6 @@ pub sumBelow-start : (f : ℕ → ℕ) → sumBelow 0 f ≡ 0
 unfolding sumBelow
 sumBelow-start f = refl
 
-pub joinBelow-start : (f : ℕ → List ℕ) → joinBelow 0 f ≡ []
-unfolding joinBelow
-joinBelow-start f = refl
-
-pub mapBelow-start : (f : ℕ → ℕ) → mapBelow 0 f ≡ []
-unfolding mapBelow joinBelow
-mapBelow-start f = refl
-
-pub listBelow-start : (p : ℕ → Bool) → listBelow 0 p ≡ []
-unfolding listBelow joinBelow
-listBelow-start p = refl
-
 -- ---- a turn
 
 pub allBelow-next : (n : ℕ) (p : ℕ → Bool) → allBelow (n + 1) p ≡ (allBelow n p && p n)
@@ -70,10 +58,6 @@ joinBelow-next n f = rw add-one
 pub mapBelow-next : (n : ℕ) (f : ℕ → ℕ) → mapBelow (n + 1) f ≡ mapBelow n f ++ (f n ∷ [])
 unfolding mapBelow
 mapBelow-next n f = joinBelow-next n (λ i. f i ∷ [])
-
-pub listBelow-next : (n : ℕ) (p : ℕ → Bool) → listBelow (n + 1) p ≡ listBelow n p ++ cond (p n) (n ∷ []) []
-unfolding listBelow
-listBelow-next n p = joinBelow-next n (λ i. cond (p i) (i ∷ []) [])
 
 -- along a list
 pub sumBy-take-next : (f : ℕ → ℕ) (l : List ℕ) (k : ℕ) → k < length l → sumBy f (take (k + 1) l) ≡ sumBy f (take k l) + f (at l k)

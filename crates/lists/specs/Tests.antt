@@ -47,10 +47,6 @@ and-right false b h = absurd (true≢false (sym h))
 pub and-fails-left : (a b : Bool) → a ≡ false → (a && b) ≡ false
 and-fails-left a b h = rw h
 
-pub and-fails-right : (a b : Bool) → b ≡ false → (a && b) ≡ false
-and-fails-right true b h = h
-and-fails-right false b h = refl
-
 pub or-left : (a b : Bool) → a ≡ true → (a || b) ≡ true
 or-left a b h = rw h
 

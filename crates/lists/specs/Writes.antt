@@ -6,7 +6,7 @@ use native.Mathlib.Nat.{le-refl, zero-add, add-zero, add-assoc, add-suc}
 use native.Mathlib.Numerals.{add-one}
 use native.Mathlib.Omega.{arith}
 use lib.ListN.{length, set, take, drop, length-append, length-take, length-drop, take-append-drop}
-use lib.Seq.{drop-cons, append-snoc, set-at, take-at, drop-at, drop-append-le, drop-append-add, drop-drop, length-take-le, set-append-left, take-set-le, take-set-lt, drop-set-lt}
+use lib.Seq.{drop-cons, append-snoc, set-at, take-at, drop-at, drop-append-le, drop-append-add, drop-drop, length-take-le, take-set-le, drop-set-lt}
 use Rattle.lists.specs.Lists.{part, put}
 use Rattle.lists.specs.Places.{length-part, part-append}
 
@@ -58,13 +58,6 @@ module _ (t : List ℕ) (i : ℕ) (vs : List ℕ) where
   pub put-over : (x : ℕ) → 0 < length vs → put (set t i x) i vs ≡ put t i vs
   unfolding put
   put-over x h = ap₂ (λ u v. u ++ (vs ++ v)) (take-set-le i t i x (le-refl i)) (drop-set-lt (i + length vs) t i x (omega arith))
-
-  -- a store before what was written
-  pub put-below : (a x : ℕ) → a < i → i ≤ length t → set (put t i vs) a x ≡ put (set t a x) i vs
-  unfolding put
-  put-below a x l h =
-      set-append-left (take i t) _ a x (rw (length-take-le i t h) l)
-      ∙ ap₂ (λ u v. u ++ (vs ++ v)) (sym (take-set-lt i t a x l)) (sym (drop-set-lt (i + length vs) t a x (omega arith)))
 
   -- what was written is there, and what stands before and behind it stays
   pub part-put : i ≤ length t → part i (i + length vs) (put t i vs) ≡ vs

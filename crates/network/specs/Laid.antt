@@ -71,7 +71,7 @@ module _ (n : ℕ) (rows : ℕ → List ℕ) where
         ap (part (h + size t + 1) (h + size t + 1 + last h t)) (shaped ∙ sym (append-assoc front firsts (joinBelow n rows ++ rest)))
         ∙ part-between (front ++ firsts) (joinBelow n rows) rest a e
 
-    pub rows-back : (i : ℕ) → i < n → rowAt (starts h t) (links h t) i ≡ rows i
+    rows-back : (i : ℕ) → i < n → rowAt (starts h t) (links h t) i ≡ rows i
     rows-back i b = rw (starts-back, links-back) (row-back i b)
 
     rows-sound : ((i : ℕ) → i < n → TidyRow n i (rows i)) → ((i : ℕ) → i < n → length (rows i) ≤ maxDegree) → SoundRows n (starts h t) (links h t)

@@ -6,7 +6,7 @@ use Prim.Native.Nat.{ℕ, _+_, _*_, _≤_, _<_}
 use native.Mathlib.Omega.{arith}
 use borrow.Author.Tests.{lt-ltb, le-ltb}
 use lib.ListN.{length, drop}
-use Rattle.lists.specs.Lists.{part, put}
+use Rattle.lists.specs.Lists.{put}
 use Rattle.lists.specs.Range.{joinBelow-same}
 use Rattle.lists.specs.Writes.{put-front, stored-list}
 use Rattle.refusals.specs.Outcomes.{Outcome, gives, refuses, Cause, outcome, valuesOr}
@@ -24,22 +24,11 @@ use Rattle.reader.specs.Read.{recordCauses, readCauses, fileTable, store
 use Rattle.reader.specs.Filling.{Filled}
 use Rattle.reader.specs.Pairs.{rows-length}
 
--- n, m, the need bytes q and the bytes r of the records were read from the file
-pub record Parts (f : List ℕ) (n m : ℕ) (q r : List ℕ) : Type 0 where
+-- n, m and the bytes r of the records were read from the file
+pub record Parts (f : List ℕ) (n m : ℕ) (r : List ℕ) : Type 0 where
   pub buses : n ≡ busCount f
   pub lines : m ≡ lineCount f
-  pub needs : q ≡ needBytes f
   pub pairs : r ≡ records f
-
-pub parts-read : (f : List ℕ) {n m : ℕ} → Sound f → n ≡ busCount f → m ≡ lineCount f → Parts f n m (part 2 (2 + n) f) (part (2 + n + 2) (length f) f)
-unfolding needBytes records
-parts-read f s en em =
-    record {
-      buses = en;
-      lines = em;
-      needs = ap (λ n. part 2 (2 + n) f) en;
-      pairs = ap₂ (λ n e. part (2 + n + 2) e f) en (s .size);
-    }
 
 -- what is answered where a slice held t, and what it holds then, if these causes decide
 abbrev pub Says : List Cause → List ℕ → List ℕ → Outcome Counts → List ℕ → Type 0
@@ -58,8 +47,8 @@ module _ (f t : List ℕ) where
       let rest = recordCauses f (length t) in
       (h .0 ∙ sym (then-decides rest (counts f) (counts f) (sectionCauses f) e), h .1 ∙ sym (ap (valuesOr t) (then-decides rest (counts f) (storedTable f t) (sectionCauses f) e)))
 
--- n buses, m lines, needs and records of the file f, in a slice that holds t
-module _ (f t : List ℕ) {n m : ℕ} {q r : List ℕ} (p : Parts f n m q r) where
+-- n buses, m lines and the records r of the file f, and a slice that holds t
+module _ (f t : List ℕ) {n m : ℕ} {r : List ℕ} (p : Parts f n m r) where
   abbrev Answers : Outcome Counts → List ℕ → Type 0
   Answers = Says (recordCauses f (length t)) f t
 
@@ -106,13 +95,13 @@ module _ (f t : List ℕ) {n m : ℕ} {q r : List ℕ} (p : Parts f n m q r) whe
         length-laid (held slots counts) n
         ∙ ap (λ k. n + 1 + k) (ap length (joinBelow-same (held slots counts) (neighbours n m r) n each) ∙ rows-length n m r (ends-facts n m r sound) once)
 
-    -- the bus count and the needs, and then the rows, were written into the slice
-    pub built : {t₁ t₂ : List ℕ} → t₁ ≡ put t 0 (length q ∷ q) → t₂ ≡ put t₁ (1 + n) (laid n (held slots counts)) → t₂ ≡ storedTable f t
+    -- the bus count and the needs q, and then the rows, were written into the slice
+    pub built : {q t₁ t₂ : List ℕ} → q ≡ needBytes f → t₁ ≡ put t 0 (length q ∷ q) → t₂ ≡ put t₁ (1 + n) (laid n (held slots counts)) → t₂ ≡ storedTable f t
     unfolding storedTable fileTable tableOf
-    built u v =
-        let long : length q ≡ n = ap length (p .needs) ∙ length-needBytes s ∙ sym (p .buses) in
+    built {q} e u v =
+        let long : length q ≡ n = ap length e ∙ length-needBytes s ∙ sym (p .buses) in
         let front = length q ∷ q in
-        let file : front ++ laid n (neighbours n m r) ≡ fileTable f = rw (long, p .buses, p .lines, p .needs, p .pairs) in
+        let file : front ++ laid n (neighbours n m r) ≡ fileTable f = rw (long, p .buses, p .lines, e, p .pairs) in
         v
         ∙ stored-list t 0 front u (omega (arith, long)) (laid n (held slots counts)) (omega arith)
         ∙ put-front t (front ++ laid n (held slots counts))

@@ -70,10 +70,10 @@ module _ {n m : ℕ} {r : List ℕ} (g : SoundRecords n m r) (free : crowded n m
   room-second = room y (read-ends g b e .1) (or-right (eqb (firstEnd r k) y) _ (eq-eqb (secondEnd r k) y (sym (e .1))))
 
   module _ {slots counts : List ℕ} (w : Filled n k r slots counts) where
-    pub low-first : x < maxBuses
+    low-first : x < maxBuses
     low-first = omega (arith, g .buses, read-ends g b e .0)
 
-    pub low-second : y < maxBuses
+    low-second : y < maxBuses
     low-second = omega (arith, g .buses, read-ends g b e .1)
 
     pub fits : length (held slots counts x) < maxDegree

@@ -47,7 +47,7 @@ module _ (n m : ℕ) (r : List ℕ) (sound : soundEnds n m r ≡ true) where
       let q = eqb-true b i (and-right (eqb a j) (eqb b i) t) in (omega (arith, e .0, p), λ z. e .2 (p ∙ z ∙ sym q)))
       (or-cases (eqb a i && eqb b j) (eqb a j && eqb b i) (w .2))
 
-  pub neighbours-tidy : (i : ℕ) → TidyRow n i (neighbours n m r i)
+  neighbours-tidy : (i : ℕ) → TidyRow n i (neighbours n m r i)
   unfolding neighbours
   neighbours-tidy i =
       record {
@@ -56,13 +56,13 @@ module _ (n m : ℕ) (r : List ℕ) (sound : soundEnds n m r ≡ true) where
         ascends = listBelow-ascends n (joined m r i);
       }
 
-  pub neighbours-short : crowded n m r ≡ false → (i : ℕ) → i < n → length (neighbours n m r i) ≤ maxDegree
+  neighbours-short : crowded n m r ≡ false → (i : ℕ) → i < n → length (neighbours n m r i) ≤ maxDegree
   unfolding crowded
   neighbours-short free i l =
       omega (arith, neighbours-few n m r (ends-facts n m r sound) i m (omega arith), ltb-false maxDegree (countBelow m (names r i)) (anyBelow-none (λ b. ltb maxDegree (countBelow m (names r b))) n free l))
 
   -- j stands in row i exactly if a record joins i and j
-  pub neighbours-joined : (i j : ℕ) → has j (neighbours n m r i) ≡ joined m r i j
+  neighbours-joined : (i j : ℕ) → has j (neighbours n m r i) ≡ joined m r i j
   unfolding neighbours
   neighbours-joined i j =
       split (ltb j n)

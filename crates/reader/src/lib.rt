@@ -20,6 +20,8 @@ pub use file::Counts;
 pub use file::Reading;
 use file::ends_of;
 use file::judge;
+use file::needs;
+use file::records;
 use file::sound_ends;
 use network::Network;
 pub use network::Refusal;
@@ -85,8 +87,8 @@ fn fill(
         let ends = ends_of(records, k);
         let a = ends.first;
         let b = ends.second;
-        let there = add(slots, counts, a, b as u16);
-        if !there.added() {
+        let inserted = add(slots, counts, a, b as u16);
+        if !inserted.added() {
             return false;
         }
         add(slots, counts, b, a as u16);
@@ -110,12 +112,11 @@ fn store_needs(needs: &[u8], table: &mut [u16])
 
 // Judges the records of a file whose sections are sound, and stores its table if they are.
 fn read_records(file: &[u8], n: usize, m: usize, table: &mut [u16]) -> Reading
-    requires { ⌜ Sound (now file) × (n ≡ busCount (now file)) × (m ≡ lineCount (now file)) ⌝ }
+    requires { ⌜ (n ≡ busCount (now file)) × (m ≡ lineCount (now file)) × Sound (now file) ⌝ }
     ensures { λ r. ⌜ readingSays r ≡ outcome (recordCauses (now (file .entry)) (length (now (table .entry)))) (counts (now (file .entry))) ⌝ }
     ensures { λ _. ⌜ now (table .exit) ≡ valuesOr (now (table .entry)) (outcome (recordCauses (now (file .entry)) (length (now (table .entry)))) (storedTable (now (file .entry)) (now (table .entry)))) ⌝ }
 {
-    let needs_end = 2 + n;
-    let records = &file[needs_end + 2..file.len()];
+    let records = records(file, n);
     if !sound_ends(records, n, m) {
         return Reading::Refused(Refusal::LineEnds);
     }
@@ -130,7 +131,7 @@ fn read_records(file: &[u8], n: usize, m: usize, table: &mut [u16]) -> Reading
     if table.len() < 2 * n + 2 + 2 * m {
         return Reading::Refused(Refusal::TableTooShort);
     }
-    store_needs(&file[2..needs_end], table);
+    store_needs(needs(file, n), table);
     store(&slots, &counts, n, table, 1 + n);
     Reading::Accepted(Counts { buses: n, lines: m })
 }

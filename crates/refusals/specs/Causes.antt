@@ -20,7 +20,7 @@ given (gives values) = true
 given (refuses number) = false
 
 -- no call does both
-pub not-both : {A : Type 0} {w : A} {k : ℕ} → gives w ≡ refuses k → ⊥
+not-both : {A : Type 0} {w : A} {k : ℕ} → gives w ≡ refuses k → ⊥
 not-both e = true≢false (ap given e)
 
 -- no cause of a list holds

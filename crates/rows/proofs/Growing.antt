@@ -61,7 +61,7 @@ module _ {slots counts slots′ counts′ : List ℕ} (x i : ℕ) (le : i < maxB
   held-each b h =
       split (eqb i b) (λ t. let e : i ≡ b = eqb-true i b t in rw t (rw (← e) held-same)) (λ t. rw t (held-other b h t))
 
-  pub grown : Grown x i slots counts slots′ counts′
+  grown : Grown x i slots counts slots′ counts′
   grown =
       record {
         rows = record {

@@ -50,7 +50,7 @@ rows-blank {slots} {counts} e w =
 
 -- ---- what the answer to an insertion must be
 
--- what was added was added
+-- the number was added, if the answer says so
 pub was-added : (r : Inserted) (x i : ℕ) (slots counts slots′ counts′ : List ℕ)
     → isAdded r ≡ true → RowsAfter r x i slots counts slots′ counts′ → RowsAfter Added x i slots counts slots′ counts′
 was-added Added x i slots counts slots′ counts′ e o = o

@@ -9,7 +9,7 @@ use lib.ListN.{drop}
 use Rattle.network.specs.Holds.{fairNeeds}
 use Rattle.file.specs.Bytes.{needBytes, lineCount}
 use Rattle.file.specs.Sections.{sectionCauses}
-use Rattle.file.proofs.Judging.{Left, all-left, needs-read, lines-read, accepted, pass, stop, cut, reaches, longer, all-read, inside, under, over}
+use Rattle.file.proofs.Judging.{Left, all-left, lines-read, accepted, pass, stop, cut, reaches, longer, all-read, inside, under, over}
 use Rattle.file.proofs.judge.Statement.{statement}
 use Rattle.file.proofs.judge.Tie as tie
 
@@ -28,7 +28,7 @@ past3 c = pass (past2 (c .before)) (reaches _ _ (omega arith))
 
 -- the needs judged are the file's
 fair : (c : tie.After-fair-needs) → c .fair-needs .result ≡ fairNeeds (needBytes (c .before .before .before .before .before .before .before .before .args .file .now))
-fair c = needs-read _ (c .before .before .before .before .before .word .ensures .0) (c .fair-needs .ensures)
+fair c = c .fair-needs .ensures ∙ ap fairNeeds (c .before .needs .ensures)
 
 past4 : (c : tie.Else5) → Past (c .before .before .before .before .before .before .before .before .before .args .file .now) 4
 past4 c = pass (past3 (c .before .before .before)) (sym (ap not (fair (c .before))) ∙ c .if5 .left)
@@ -89,9 +89,7 @@ judge-spec =
     returns-3
     (λ c. search needs)
     returns-4
-    (λ c. search needs)
-    (λ c. search needs)
-    (λ c. search needs)
+    (λ c κs. search needs)
     (λ c κs. search needs)
     returns-5
     (λ c. search needs)

@@ -3,10 +3,9 @@
 use borrow.Author.Needs.{needs}
 use native.Mathlib.Omega.{arith}
 use mathlib.Core.Bool.{false, not, false≢true}
-use mathlib.Core.Path.{_≡_, refl, sym, ap, _∙_}
+use mathlib.Core.Path.{_≡_, sym, ap, _∙_}
 use Prim.Native.Nat.{_-_, _≤_, _<_}
-use Rattle.lists.specs.Below.{anyBelow}
-use Rattle.lists.specs.Loops.{by-end, anyBelow-by, anyBelow-more}
+use Rattle.lists.specs.Loops.{by-end, anyBelow-start, anyBelow-by, anyBelow-more}
 use Rattle.lists.specs.Tests.{passed, failed}
 use Rattle.network.specs.Limits.{maxBuses}
 use Rattle.rows.specs.declared.Inserted.the-variants.{Added}
@@ -26,8 +25,8 @@ abbrev μ-loop : tie.MeasureT-loop
 μ-loop records n m slots₀ counts₀ k₀ slots counts k = m - k
 
 loop-holds : tie.Need-loop-holds Inv-loop μ-loop
-unfolding repeated anyBelow
-loop-holds c = let h = c .before .before .pre in (search needs, filled-none _ _ (h .1 .0) (h .1 .1), refl)
+unfolding repeated
+loop-holds c = let h = c .before .before .pre in (search needs, filled-none _ _ (h .1 .0) (h .1 .1), anyBelow-start _)
 
 -- where a record was read, and where its second end was added to the row of its first
 abbrev start : tie.After-ends-of Inv-loop μ-loop → tie.Start Inv-loop μ-loop

@@ -14,7 +14,7 @@ judged c = sym (c .before .before .judge .ensures) ∙ ap readingSays (c .counts
 
 read-records-requires : tie.Need-read-records-requires
 read-records-requires c κs =
-    let s = sections-sound _ (judged (c .before .before)) in (s .0, ap (λ n. n .buses) (s .1), ap (λ n. n .lines) (s .1))
+    let s = sections-sound _ (judged (c .before .before)) in (ap (λ n. n .buses) (s .1), ap (λ n. n .lines) (s .1), s .0)
 
 returns : tie.Need-returns
 returns c = sections-refuse _ _ (sym (c .before .before .before .judge .ensures) ∙ ap readingSays (c .before .cause .given .1))

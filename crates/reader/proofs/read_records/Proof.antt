@@ -5,32 +5,25 @@ use native.Mathlib.Omega.{arith}
 use mathlib.Core.Bool.{true, false}
 use mathlib.Core.List.{List}
 use mathlib.Core.Path.{_≡_, sym, ap, _∙_}
-use Prim.Native.Nat.{ℕ, _+_, _*_, _≤_}
+use Prim.Native.Nat.{ℕ, _*_, _≤_}
 use lib.ListN.{length}
 use borrow.Author.Tests.{not-true, not-false}
-use Rattle.lists.specs.Lists.{part}
 use Rattle.lists.specs.Tests.{passed, failed}
 use Rattle.file.specs.Sections.{soundEnds}
 use Rattle.file.specs.Sound.{length-needBytes, length-records}
 use Rattle.reader.specs.Records.{crowded, repeated}
 use Rattle.reader.specs.Filling.{SoundRecords, Filled}
-use Rattle.reader.proofs.Deciding.{Parts, parts-read, wrong-ends, crowded-bus, repeated-line, short-table, laid-length, accepted, built}
+use Rattle.reader.proofs.Deciding.{Parts, wrong-ends, crowded-bus, repeated-line, short-table, laid-length, accepted, built}
 use Rattle.reader.proofs.read_records.Statement.{statement}
 use Rattle.reader.proofs.read_records.Tie as tie
-
--- the bytes of the needs and of the records
-abbrev needs-of : tie.Start → List ℕ
-needs-of s = part 2 (2 + s .args .n) (s .args .file .now)
-
-abbrev records-of : tie.Start → List ℕ
-records-of s = part (2 + s .args .n + 2) (length (s .args .file .now)) (s .args .file .now)
-
-parts : (s : tie.Start) → Parts (s .args .file .now) (s .args .n) (s .args .m) (needs-of s) (records-of s)
-parts s = parts-read (s .args .file .now) (s .pre .0) (s .pre .1) (s .pre .2)
 
 -- the places behind the tests, and the start that they lead back to
 abbrev start1 : tie.Else1 → tie.Start
 start1 c = c .before .before .before .before .before
+
+-- the bytes of the records
+abbrev records1 : tie.Else1 → List ℕ
+records1 c = c .before .before .records .result .now
 
 abbrev else1 : tie.Else2 → tie.Else1
 else1 c = c .before .before
@@ -41,25 +34,35 @@ else2 c = c .before .before .before .before .before .before .before
 abbrev start2 : tie.Else2 → tie.Start
 start2 c = start1 (else1 c)
 
+abbrev records2 : tie.Else2 → List ℕ
+records2 c = records1 (else1 c)
+
 abbrev start3 : tie.Else3 → tie.Start
 start3 c = start2 (else2 c)
 
-sound : (c : tie.Else1) → let s = start1 c in soundEnds (s .args .n) (s .args .m) (records-of s) ≡ true
-sound c = passed (c .before .sound-ends .ensures) (c .if1 .left)
+abbrev records3 : tie.Else3 → List ℕ
+records3 c = records2 (else2 c)
 
-free : (c : tie.Else2) → let s = start2 c in crowded (s .args .n) (s .args .m) (records-of s) ≡ false
-free c = sym (c .before .crowded .ensures) ∙ c .if2 .left
-
-once : (c : tie.Else3) → let s = start3 c in repeated (s .args .m) (records-of s) ≡ false
-once c = not-true _ (sym (c .before .before .fill .ensures .0) ∙ not-false _ (c .if3 .left))
+-- what was read from the file
+read : (r : tie.After-records) → let a = r .before .before .before .args in Parts (a .file .now) (a .n) (a .m) (r .records .result .now)
+read r = let h = r .before .before .before .pre in record { buses = h .0; lines = h .1; pairs = r .records .ensures }
 
 -- all records are there
-long : (s : tie.Start) → 4 * s .args .m ≤ length (records-of s)
-long s = omega (arith, ap length (parts s .pairs), length-records (s .pre .0), s .pre .2)
+long : (r : tie.After-records) → 4 * r .before .before .before .args .m ≤ length (r .records .result .now)
+long r = let h = r .before .before .before .pre in omega (arith, ap length (r .records .ensures), length-records (h .2), h .1)
 
-ends : (c : tie.Else1) → let s = start1 c in SoundRecords (s .args .n) (s .args .m) (records-of s)
+sound : (c : tie.Else1) → let s = start1 c in soundEnds (s .args .n) (s .args .m) (records1 c) ≡ true
+sound c = passed (c .before .sound-ends .ensures) (c .if1 .left)
+
+free : (c : tie.Else2) → let s = start2 c in crowded (s .args .n) (s .args .m) (records2 c) ≡ false
+free c = sym (c .before .crowded .ensures) ∙ c .if2 .left
+
+once : (c : tie.Else3) → let s = start3 c in repeated (s .args .m) (records3 c) ≡ false
+once c = not-true _ (sym (c .before .before .fill .ensures .0) ∙ not-false _ (c .if3 .left))
+
+ends : (c : tie.Else1) → let s = start1 c in SoundRecords (s .args .n) (s .args .m) (records1 c)
 ends c =
-    let h = start1 c .pre in record { buses = omega (arith, h .0 .buses, h .1); lines = omega (arith, h .0 .lines, h .2); sound = sound c }
+    let h = start1 c .pre in record { buses = omega (arith, h .2 .buses, h .0); lines = omega (arith, h .2 .lines, h .1); sound = sound c }
 
 -- the rows that were filled
 abbrev slots-of : tie.Else3 → List ℕ
@@ -68,44 +71,50 @@ slots-of c = c .before .before .fill .last .1 .1 .1 .0
 abbrev counts-of : tie.Else3 → List ℕ
 counts-of c = c .before .before .fill .last .1 .1 .1 .1 .0
 
-filled : (c : tie.Else3) → let s = start3 c in Filled (s .args .n) (s .args .m) (records-of s) (slots-of c) (counts-of c)
+filled : (c : tie.Else3) → let s = start3 c in Filled (s .args .n) (s .args .m) (records3 c) (slots-of c) (counts-of c)
 filled c = c .before .before .fill .ensures .1 (not-false _ (c .if3 .left))
 
 returns : tie.Need-returns
-returns c = let s = c .before .before .before .before .before in wrong-ends _ (s .args .table .now) (parts s) (failed (c .before .sound-ends .ensures) (c .if1 .taken))
+returns c =
+    let r = c .before .before in wrong-ends _ (r .before .before .before .args .table .now) (read r) (failed (c .before .sound-ends .ensures) (c .if1 .taken))
 
 crowded-requires : tie.Need-crowded-requires
-crowded-requires c κs = (long (start1 c), ends c)
+crowded-requires c κs = (long (c .before .before), ends c)
 
 returns-2 : tie.Need-returns-2
 returns-2 c =
     let e = c .before .before in
-    let s = start1 e in
-    crowded-bus _ (s .args .table .now) (parts s) (sound e) (sym (c .before .crowded .ensures) ∙ c .if2 .taken)
+    crowded-bus _ (start1 e .args .table .now) (read (e .before .before)) (sound e) (sym (c .before .crowded .ensures) ∙ c .if2 .taken)
 
 fill-requires : tie.Need-fill-requires
 fill-requires c κs =
     let e = c .before .before .before .before in
-    ((long (start2 e), ends (else1 e), free e), (c .before .before .before .blank-slots .ensures, c .before .before .blank-counts .ensures))
+    ((long (else1 e .before .before), ends (else1 e), free e), (c .before .before .before .blank-slots .ensures, c .before .before .blank-counts .ensures))
 
 returns-3 : tie.Need-returns-3
 returns-3 c =
     let e = c .before .before .before .before .before .before .before in
-    let s = start2 e in
-    repeated-line _ (s .args .table .now) (parts s) (sound (else1 e)) (free e) (not-false _ (sym (c .before .before .fill .ensures .0) ∙ not-true _ (c .if3 .taken)))
+    repeated-line _ (start2 e .args .table .now) (read (else1 e .before .before)) (sound (else1 e)) (free e)
+    (not-false _ (sym (c .before .before .fill .ensures .0) ∙ not-true _ (c .if3 .taken)))
+
+-- where all records are sound
+abbrev opened : tie.Else3 → tie.After-records
+opened c = else1 (else2 c) .before .before
 
 returns-4 : tie.Need-returns-4
 returns-4 c =
     let e = c .before in
-    let s = start3 e in
-    short-table _ (s .args .table .now) (parts s) (sound (else1 (else2 e))) (free (else2 e)) (once e) (c .if4 .taken)
+    short-table _ (start3 e .args .table .now) (read (opened e)) (sound (else1 (else2 e))) (free (else2 e)) (once e) (c .if4 .taken)
+
+needs-requires : tie.Need-needs-requires
+needs-requires c κs = let h = start3 (c .before) .pre in (h .0, omega (arith, h .2 .size))
 
 store-needs-requires : tie.Need-store-needs-requires
 store-needs-requires c κs =
     let e = c .before .before in
-    let s = start3 (e .before) in
-    let z = ap length (parts s .needs) ∙ length-needBytes (s .pre .0) in
-    (omega (arith, s .pre .0 .buses), omega (arith, s .pre .1, e .if4 .left))
+    let h = start3 (e .before) .pre in
+    let z = ap length (c .before .needs .ensures) ∙ length-needBytes (h .2) in
+    (omega (arith, h .2 .buses), omega (arith, h .0, e .if4 .left))
 
 store-requires : tie.Need-store-requires
 store-requires c κs =
@@ -113,7 +122,7 @@ store-requires c κs =
     let d = e .before in
     let s = start3 d in (
       (ends (else1 (else2 d)) .buses, filled d .rows),
-      omega (arith, laid-length _ (s .args .table .now) (parts s) (s .pre .0) (filled d) (sound (else1 (else2 d))) (once d), e .if4 .left, c .before .before .before .before .before .store-needs .kept .1 .0),
+      omega (arith, laid-length _ (s .args .table .now) (read (opened d)) (s .pre .2) (filled d) (sound (else1 (else2 d))) (once d), e .if4 .left, c .before .before .before .before .before .store-needs .kept .1 .0),
     )
 
 returns-5 : tie.Need-returns-5
@@ -122,19 +131,16 @@ returns-5 c =
     let d = e .before in
     let s = start3 d in
     let t = s .args .table .now in
-    accepted _ t (parts s) (sound (else1 (else2 d))) (free (else2 d)) (once d) (e .if4 .left)
-    (built _ t (parts s) (s .pre .0) (filled d) (c .before .before .before .before .before .before .before .before .store-needs .ensures) (c .before .before .store .ensures))
+    let p = c .before .before .before .before .before .before .before .before in
+    accepted _ t (read (opened d)) (sound (else1 (else2 d))) (free (else2 d)) (once d) (e .if4 .left)
+    (built _ t (read (opened d)) (s .pre .2) (filled d) (p .before .before .needs .ensures) (p .store-needs .ensures) (c .before .before .store .ensures))
 
 pub read-records-spec : {M : Type 1} → statement M
 read-records-spec =
     tie.close
     (tie.spec
-    (λ c. search needs)
-    (λ c. search needs)
-    (λ c. search needs)
-    (λ c. search needs)
-    (λ c. search needs)
-    (λ c κs. long (c .before .before .before))
+    (λ c κs. search needs)
+    (λ c κs. long c)
     returns
     crowded-requires
     returns-2
@@ -148,9 +154,7 @@ read-records-spec =
     (λ c. search needs)
     (λ c. search needs)
     returns-4
-    (λ c. search needs)
-    (λ c. search needs)
-    (λ c. search needs)
+    needs-requires
     store-needs-requires
     (λ c. search needs)
     (λ c. search needs)

@@ -1,0 +1,10 @@
+-- `file::ends_of` meets its contract. Assumes nothing.
+use borrow.Author.Needs.{needs}
+use Rattle.file.proofs.ends_of.Statement.{statement}
+use Rattle.file.proofs.ends_of.Tie as tie
+
+returns : tie.Need-returns
+returns c = (c .before .word .ensures .0, c .word2 .ensures .0)
+
+pub ends-of-spec : {M : Type 1} → statement M
+ends-of-spec = tie.close (tie.spec (λ c. search needs) (λ c κs. search needs) (λ c. search needs) (λ c κs. search needs) returns)
