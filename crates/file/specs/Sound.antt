@@ -14,7 +14,7 @@ use Rattle.lists.specs.Loops.{allBelow-at, allBelow-by}
 use Rattle.lists.specs.Places.{length-part}
 use Rattle.refusals.specs.Outcomes.{gives}
 use Rattle.refusals.specs.Causes.{no-cause}
-use Rattle.network.specs.Limits.{maxBuses, maxLines}
+use Rattle.network.specs.Limits.{maxBuses, maxLines, maxBytes}
 use Rattle.network.specs.Holds.{fairNeeds}
 use Rattle.network.specs.Facts.{within-facts}
 use Rattle.file.specs.declared.Counts.{Counts}
@@ -54,6 +54,10 @@ module _ {f : List ℕ} (s : Sound f) where
   pub length-records : length (records f) ≡ 4 * lineCount f
   unfolding records
   length-records = omega (arith, length-part (recordsAt f) (fileEnd f) f (omega (arith, s .size)))
+
+  -- no file is longer than the limit says
+  pub bytes-few : length f ≤ maxBytes
+  bytes-few = omega (arith, s .size, s .buses, s .lines)
 
 -- ---- the ends of records
 
