@@ -19,10 +19,10 @@ use Rattle.file.specs.declared.Counts.{Counts}
 use Rattle.file.specs.Bytes.{busCount, needBytes, lineCount, records}
 use Rattle.file.specs.Sections.{sectionCauses, counts, sectionsOutcome, soundEnds}
 use Rattle.file.specs.Sound.{Sound, length-needBytes, ends-facts}
-use Rattle.reader.specs.Records.{neighbours, crowded, repeated}
+use Rattle.records.specs.Records.{neighbours, crowded, repeated}
 use Rattle.reader.specs.Read.{recordCauses, readCauses, fileTable, storedTable}
-use Rattle.reader.specs.Filling.{Filled}
-use Rattle.reader.specs.Pairs.{rows-length}
+use Rattle.records.specs.Filling.{Filled}
+use Rattle.records.specs.Pairs.{rows-length}
 
 -- n, m and the bytes r of the records were read from the file
 pub record Parts (f : List ℕ) (n m : ℕ) (r : List ℕ) : Type 0 where

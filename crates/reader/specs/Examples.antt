@@ -10,7 +10,7 @@ use Rattle.network.specs.Layout.{laid, tableOf}
 use Rattle.network.specs.Holds.{within, fairNeeds}
 use Rattle.file.specs.Bytes.{wordAt, needBytes, records}
 use Rattle.file.specs.Sections.{endsBefore, goesOn, twoBuses, soundEnds}
-use Rattle.reader.specs.Records.{names, joins, joined, neighbours, crowded, repeats, repeated}
+use Rattle.records.specs.Records.{names, joins, joined, neighbours, crowded, repeats, repeated}
 use Rattle.reader.specs.Read.{readOutcome, fileTable, storedTable, tableAfter}
 
 -- a file: n buses and their needs, m lines and their records

@@ -14,7 +14,7 @@ use Rattle.network.specs.Holds.{Holds}
 use Rattle.file.specs.declared.Counts.{Counts}
 use Rattle.file.specs.Bytes.{busCount, needBytes, lineCount, records}
 use Rattle.file.specs.Sections.{sectionCauses, counts, soundEnds}
-use Rattle.reader.specs.Records.{joined, neighbours, crowded, repeated}
+use Rattle.records.specs.Records.{joined, neighbours, crowded, repeated}
 
 -- each over all records before the next: a wrong end, a crowded bus, a repeated pair; then too few entries lent
 abbrev pub recordCauses : List ℕ → ℕ → List Cause

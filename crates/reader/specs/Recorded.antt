@@ -1,73 +1,28 @@
 -- What Read stored is what the file records. Assumes nothing.
-use mathlib.Core.Bool.{true, false, _&&_}
+use mathlib.Core.Bool.{true}
 use mathlib.Core.List.{List, _++_}
-use mathlib.Core.Logic.{⊎-elim}
 use mathlib.Core.Path.{_≡_, sym, ap, _∙_}
-use Prim.Native.Nat.{ℕ, _+_, _*_, _≤_, _<_}
+use Prim.Native.Nat.{ℕ, _+_, _*_}
 use native.Mathlib.Omega.{arith}
-use borrow.Author.Tests.{ltb-true, ltb-false, eqb-true, not-false}
-use lib.Dec.{ltb, eqb}
+use borrow.Author.Tests.{not-false}
 use lib.ListN.{length, drop}
 use Rattle.lists.specs.Lists.{has}
-use Rattle.lists.specs.Below.{countBelow, joinBelow}
-use Rattle.lists.specs.Tests.{split, fails, and-left, and-right, or-cases}
-use Rattle.lists.specs.Loops.{anyBelow-at, anyBelow-none}
-use Rattle.lists.specs.Range.{count-listBelow, has-listBelow, listBelow-in, listBelow-ascends}
+use Rattle.lists.specs.Below.{joinBelow}
 use Rattle.refusals.specs.Outcomes.{gives, refuses, valuesOr}
 use Rattle.refusals.specs.Causes.{NoneHolds, no-cause, none-gives, none-both, refuses-any}
-use Rattle.network.specs.Limits.{maxDegree}
 use Rattle.network.specs.Layout.{tableOf}
-use Rattle.network.specs.Holds.{TidyRow, Holds}
+use Rattle.network.specs.Holds.{Holds}
 use Rattle.network.specs.Facts.{fair-facts}
 use Rattle.network.specs.Laid.{length-tableOf, made-size, made-needs, made-last, made-row, made-holds}
 use Rattle.network.specs.Lines.{two-for-each}
 use Rattle.file.specs.declared.Counts.{Counts}
-use Rattle.file.specs.Bytes.{busCount, needBytes, lineCount, records, firstEnd, secondEnd}
+use Rattle.file.specs.Bytes.{busCount, needBytes, lineCount, records}
 use Rattle.file.specs.Sections.{sectionCauses, counts, soundEnds}
 use Rattle.file.specs.Sound.{Sound, sections-sound, length-needBytes, ends-facts}
-use Rattle.reader.specs.Records.{names, joins, joined, neighbours, crowded}
+use Rattle.records.specs.Records.{neighbours}
 use Rattle.reader.specs.Read.{recordCauses, readCauses, readOutcome, fileTable, storedTable, tableAfter, AsRecorded}
-use Rattle.reader.specs.Pairs.{joined-sym, neighbours-few, rows-length}
-
--- records whose ends are sound and that crowd no bus
-module _ (n m : ℕ) (r : List ℕ) (sound : soundEnds n m r ≡ true) where
-  -- who is joined is a bus, and another one
-  joined-buses : (i j : ℕ) → joined m r i j ≡ true → (j < n) × (j ≡ i → ⊥)
-  unfolding joined joins
-  joined-buses i j h =
-      let w = anyBelow-at _ m h in
-      let k = w .0 in
-      let a = firstEnd r k in
-      let b = secondEnd r k in
-      let e = ends-facts n m r sound k (w .1) in
-      ⊎-elim
-      (λ t. let p = eqb-true a i (and-left (eqb a i) (eqb b j) t) in
-      let q = eqb-true b j (and-right (eqb a i) (eqb b j) t) in (omega (arith, e .1, q), λ z. e .2 (p ∙ sym z ∙ sym q)))
-      (λ t. let p = eqb-true a j (and-left (eqb a j) (eqb b i) t) in
-      let q = eqb-true b i (and-right (eqb a j) (eqb b i) t) in (omega (arith, e .0, p), λ z. e .2 (p ∙ z ∙ sym q)))
-      (or-cases (eqb a i && eqb b j) (eqb a j && eqb b i) (w .2))
-
-  neighbours-tidy : (i : ℕ) → TidyRow n i (neighbours n m r i)
-  unfolding neighbours
-  neighbours-tidy i =
-      record {
-        below = λ k l. listBelow-in n (joined m r i) k l .0;
-        others = λ k l. joined-buses i _ (listBelow-in n (joined m r i) k l .1) .1;
-        ascends = listBelow-ascends n (joined m r i);
-      }
-
-  neighbours-short : crowded n m r ≡ false → (i : ℕ) → i < n → length (neighbours n m r i) ≤ maxDegree
-  unfolding crowded
-  neighbours-short free i l =
-      omega (arith, neighbours-few n m r (ends-facts n m r sound) i m (omega arith), ltb-false maxDegree (countBelow m (names r i)) (anyBelow-none (λ b. ltb maxDegree (countBelow m (names r b))) n free l))
-
-  -- j stands in row i exactly if a record joins i and j
-  neighbours-joined : (i j : ℕ) → has j (neighbours n m r i) ≡ joined m r i j
-  unfolding neighbours
-  neighbours-joined i j =
-      split (ltb j n)
-      (λ t. has-listBelow (joined m r i) (ltb-true j n t))
-      (λ t. rw (count-listBelow j n (joined m r i), t) (sym (fails (joined m r i j) (λ h. omega (arith, ltb-false j n t, joined-buses i j h .0)))))
+use Rattle.records.specs.Pairs.{joined-sym, rows-length}
+use Rattle.records.specs.Neighbours.{neighbours-tidy, neighbours-short, neighbours-joined}
 
 -- the file is accepted
 module _ (f t : List ℕ) {c : Counts} (e : readOutcome f (length t) ≡ gives c) where

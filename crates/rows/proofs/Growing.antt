@@ -14,9 +14,9 @@ use Rattle.lists.specs.Tests.{split, eqb-self, eqb-comm}
 use Rattle.lists.specs.Places.{at-set, length-part}
 use Rattle.lists.specs.Writes.{length-put, part-put, part-put-before, part-put-behind, put-part}
 use Rattle.network.specs.Limits.{maxBuses, maxDegree}
-use Rattle.rows.specs.declared.Inserted.the-variants.{Added, Present, Full}
-use Rattle.rows.specs.Insertion.{insert, RowAfter}
-use Rattle.rows.specs.Inserting.{insert-length, insert-ascends}
+use Rattle.insertion.specs.declared.Inserted.the-variants.{Added, Present, Full}
+use Rattle.insertion.specs.Insertion.{insert, RowAfter}
+use Rattle.insertion.specs.Inserting.{insert-length, insert-ascends}
 use Rattle.rows.specs.Held.{held, Rows, Grown, RowsAfter}
 use Rattle.rows.specs.HeldRows.{held-part, held-length}
 

@@ -1,3 +1,1 @@
-pub mod Placing
-pub mod Shifts
 pub mod Growing

@@ -8,9 +8,9 @@ use lib.Dec.{eqb}
 use lib.ListN.{length, take, drop}
 use Rattle.lists.specs.Lists.{has, at, Ascending}
 use Rattle.network.specs.Limits.{maxBuses, maxDegree}
-use Rattle.rows.specs.declared.Inserted.{Inserted}
-use Rattle.rows.specs.declared.Inserted.the-variants.{Added, Present, Full}
-use Rattle.rows.specs.Insertion.{insert}
+use Rattle.insertion.specs.declared.Inserted.{Inserted}
+use Rattle.insertion.specs.declared.Inserted.the-variants.{Added, Present, Full}
+use Rattle.insertion.specs.Insertion.{insert}
 
 -- slots of all buses
 abbrev pub maxSlots : ℕ

@@ -11,9 +11,9 @@ use Rattle.lists.specs.Below.{sumBelow, joinBelow}
 use Rattle.lists.specs.Tests.{never-both}
 use Rattle.lists.specs.Range.{sumBelow-same, length-joinBelow}
 use Rattle.network.specs.Limits.{maxBuses, maxDegree}
-use Rattle.rows.specs.declared.Inserted.{Inserted}
-use Rattle.rows.specs.declared.Inserted.the-variants.{Added, Present, Full}
-use Rattle.rows.specs.Insertion.{isAdded}
+use Rattle.insertion.specs.declared.Inserted.{Inserted}
+use Rattle.insertion.specs.declared.Inserted.the-variants.{Added, Present, Full}
+use Rattle.insertion.specs.Insertion.{isAdded}
 use Rattle.rows.specs.Held.{maxSlots, held, Rows, Blank, RowsAfter}
 
 -- a row is a part of the slots

@@ -11,8 +11,8 @@ use borrow.Author.Tests.{not-true, not-false}
 use Rattle.lists.specs.Tests.{passed, failed}
 use Rattle.file.specs.Sections.{soundEnds}
 use Rattle.file.specs.Sound.{length-needBytes, length-records}
-use Rattle.reader.specs.Records.{crowded, repeated}
-use Rattle.reader.specs.Filling.{SoundRecords, Filled}
+use Rattle.records.specs.Records.{crowded, repeated}
+use Rattle.records.specs.Filling.{SoundRecords, Filled}
 use Rattle.reader.proofs.Deciding.{Parts, wrong-ends, crowded-bus, repeated-line, short-table, laid-length, accepted, built}
 use Rattle.reader.proofs.read_records.Statement.{statement}
 use Rattle.reader.proofs.read_records.Tie as tie
@@ -106,6 +106,16 @@ returns-4 c =
     let e = c .before in
     short-table _ (start3 e .args .table .now) (read (opened e)) (sound (else1 (else2 e))) (free (else2 e)) (once e) (c .if4 .taken)
 
+returns-5 : tie.Need-returns-5
+returns-5 c =
+    let e = c .before .before .before .before .before .before .before .before .before .before .before in
+    let d = e .before in
+    let s = start3 d in
+    let t = s .args .table .now in
+    let p = c .before .before .before .before .before .before .before .before in
+    accepted _ t (read (opened d)) (sound (else1 (else2 d))) (free (else2 d)) (once d) (e .if4 .left)
+    (built _ t (read (opened d)) (s .pre .2) (filled d) (p .before .before .needs .ensures) (p .store-needs .ensures) (c .before .before .store .ensures))
+
 needs-requires : tie.Need-needs-requires
 needs-requires c κs = let h = start3 (c .before) .pre in (h .0, omega (arith, h .2 .size))
 
@@ -124,16 +134,6 @@ store-requires c κs =
       (ends (else1 (else2 d)) .buses, filled d .rows),
       omega (arith, laid-length _ (s .args .table .now) (read (opened d)) (s .pre .2) (filled d) (sound (else1 (else2 d))) (once d), e .if4 .left, c .before .before .before .before .before .store-needs .kept .1 .0),
     )
-
-returns-5 : tie.Need-returns-5
-returns-5 c =
-    let e = c .before .before .before .before .before .before .before .before .before .before .before in
-    let d = e .before in
-    let s = start3 d in
-    let t = s .args .table .now in
-    let p = c .before .before .before .before .before .before .before .before in
-    accepted _ t (read (opened d)) (sound (else1 (else2 d))) (free (else2 d)) (once d) (e .if4 .left)
-    (built _ t (read (opened d)) (s .pre .2) (filled d) (p .before .before .needs .ensures) (p .store-needs .ensures) (c .before .before .store .ensures))
 
 pub read-records-spec : {M : Type 1} → statement M
 read-records-spec =

@@ -3,9 +3,9 @@ use borrow.Author.Needs.{needs}
 use native.Mathlib.Omega.{arith}
 use mathlib.Core.Path.{_≡_, subst}
 use Rattle.lists.specs.Lists.{at}
-use Rattle.rows.specs.declared.Inserted.{Inserted}
-use Rattle.rows.specs.declared.Inserted.the-variants.{Added, Present, Full}
-use Rattle.rows.specs.Insertion.{RowAfter}
+use Rattle.insertion.specs.declared.Inserted.{Inserted}
+use Rattle.insertion.specs.declared.Inserted.the-variants.{Added, Present, Full}
+use Rattle.insertion.specs.Insertion.{RowAfter}
 use Rattle.rows.proofs.Growing.{own, numbers, own-length, own-ascends, row-added, row-present, row-full}
 use Rattle.rows.proofs.add.Statement.{statement}
 use Rattle.rows.proofs.add.Tie as tie
@@ -33,10 +33,6 @@ insert-requires c κs =
     let z = own-length (a .slots .now) (a .counts .now) (a .bus) (s .pre .0) (s .pre .1) in
     (omega (arith, s .pre .1 .few (a .bus) (s .pre .0)), own-ascends (a .slots .now) (a .counts .now) (a .bus) (s .pre .0) (s .pre .1))
 
-bump-requires : tie.Need-bump-requires
-bump-requires c κs =
-    let s = start (c .before .before .before .before .before) in (s .pre .0, omega (arith, s .pre .1 .few (s .args .bus) (s .pre .0)))
-
 returns : tie.Need-returns
 returns c =
     let p = c .before .before .before .before .before .before in
@@ -54,6 +50,10 @@ returns-3 c =
     let p = c .before .before .before .before in
     let s = start p in
     row-full _ _ _ (s .pre .0) (s .pre .1) _ (told p Full (c .enum-told3 .given .1))
+
+bump-requires : tie.Need-bump-requires
+bump-requires c κs =
+    let s = start (c .before .before .before .before .before) in (s .pre .0, omega (arith, s .pre .1 .few (s .args .bus) (s .pre .0)))
 
 pub add-spec : {M : Type 1} → statement M
 add-spec =

@@ -1,0 +1,4 @@
+pub mod Insertion
+pub mod Shifting
+pub mod Examples
+pub mod Inserting

@@ -1,0 +1,72 @@
+-- How many records name each bus, a record at a time. Assumes nothing.
+use mathlib.Core.Bool.{Bool, _||_}
+use mathlib.Core.List.{List}
+use mathlib.Core.Path.{_≡_, sym, ap, ap₂, _∙_, fun-ext}
+use Prim.Native.Nat.{ℕ, _+_, _<_}
+use native.Mathlib.Omega.{arith}
+use borrow.Author.Tests.{eqb-true}
+use lib.Dec.{eqb, ltb}
+use lib.ListN.{length, set, length-set}
+use Rattle.lists.specs.Lists.{tally, at}
+use Rattle.lists.specs.Below.{anyBelow, sumBelow}
+use Rattle.lists.specs.Tests.{split, eqb-comm}
+use Rattle.lists.specs.Sums.{tally-le}
+use Rattle.lists.specs.Places.{at-set}
+use Rattle.lists.specs.Loops.{sumBelow-next}
+use Rattle.lists.specs.Range.{countBelow-le}
+use Rattle.network.specs.Limits.{maxBuses, maxDegree}
+use Rattle.rows.specs.Held.{Blank}
+use Rattle.file.specs.Bytes.{firstEnd, secondEnd}
+use Rattle.file.specs.Sound.{ends-facts}
+use Rattle.records.specs.Records.{names, crowded}
+use Rattle.records.specs.Filling.{SoundRecords, Named}
+use Rattle.records.specs.Pairs.{named-once}
+
+-- one more at a
+bumped : (l : List ℕ) (a x : ℕ) → a < length l → at (set l a (at l a + 1)) x ≡ at l x + tally (eqb a x)
+bumped l a x h =
+    at-set l a (at l a + 1) x h
+    ∙ split (eqb a x)
+    (λ t. let q = eqb-true a x t in rw (eqb-comm x a, t) (ap (λ y. at l y + 1) q))
+    (λ t. rw (eqb-comm x a, t) (omega arith))
+
+pub named-none : (r : List ℕ) {l : List ℕ} → Blank l → Named 0 r l
+unfolding sumBelow
+named-none r w = record { size = w .size; each = w .clear }
+
+-- x and y were read of record k, and one more counted at each
+module _ {n m : ℕ} {r : List ℕ} (g : SoundRecords n m r) {k : ℕ} (b : k < m) {x y : ℕ} (e : (x ≡ firstEnd r k) × (y ≡ secondEnd r k)) where
+  -- they are two different buses
+  pub read-ends : (x < n) × (y < n) × (x ≡ y → ⊥)
+  read-ends = let f = ends-facts n m r (g .sound) k b in (omega (arith, f .0, e .0), omega (arith, f .1, e .1), λ q. f .2 (sym (e .0) ∙ q ∙ e .1))
+
+  pub first-counts : {l : List ℕ} → Named k r l → (x < maxBuses) × (at l x < 65535)
+  first-counts w = (omega (arith, g .buses, read-ends .0), omega (arith, w .each x, countBelow-le (names r x) k, g .lines))
+
+  module _ {l l′ : List ℕ} (w : Named k r l) (p : l′ ≡ set l x (at l x + 1)) where
+    at′ : (z : ℕ) → at l′ z ≡ at l z + tally (eqb x z)
+    at′ z = ap (λ u. at u z) p ∙ bumped l x z (omega (arith, w .size, g .buses, read-ends .0))
+
+    size′ : length l′ ≡ maxBuses
+    size′ = ap length p ∙ length-set l x (at l x + 1) ∙ w .size
+
+    -- there is room for one more
+    pub second-counts : (y < maxBuses) × (at l′ y < 65535)
+    second-counts =
+        (omega (arith, g .buses, read-ends .1), omega (arith, at′ y, tally-le (eqb x y), w .each y, countBelow-le (names r y) k, g .lines))
+
+    pub named-more : {l″ : List ℕ} → l″ ≡ set l′ y (at l′ y + 1) → Named (k + 1) r l″
+    unfolding names
+    named-more q =
+        record {
+          size = ap length q ∙ length-set l′ y (at l′ y + 1) ∙ size′;
+          each = λ z.
+              ap (λ u. at u z) q
+              ∙ bumped l′ y z (omega (arith, size′, second-counts .0))
+              ∙ omega (arith, at′ z, w .each z, named-once x y (read-ends .2) z, ap₂ (λ u v. tally (eqb u z || eqb v z)) (e .0) (e .1), sumBelow-next k (λ i. tally (names r z i)));
+        }
+
+-- the counts of all records decide whether a bus is crowded
+pub crowded-read : (n : ℕ) {m : ℕ} {r l : List ℕ} {b : Bool} → Named m r l → b ≡ anyBelow n (λ bus. ltb maxDegree (at l bus)) → b ≡ crowded n m r
+unfolding crowded
+crowded-read n w e = e ∙ ap (anyBelow n) (fun-ext (λ bus. ap (ltb maxDegree) (w .each bus)))

@@ -1,0 +1,5 @@
+pub mod Records
+pub mod Filling
+pub mod Pairs
+pub mod Neighbours
+pub mod Examples

@@ -1,0 +1,61 @@
+-- The neighbours that sound records give a bus: other buses of the network, ascending, few where no bus is crowded. Assumes nothing.
+use mathlib.Core.Bool.{true, false, _&&_}
+use mathlib.Core.List.{List}
+use mathlib.Core.Logic.{⊎-elim}
+use mathlib.Core.Path.{_≡_, sym, _∙_}
+use Prim.Native.Nat.{ℕ, _≤_, _<_}
+use native.Mathlib.Omega.{arith}
+use borrow.Author.Tests.{ltb-true, ltb-false, eqb-true}
+use lib.Dec.{ltb, eqb}
+use lib.ListN.{length}
+use Rattle.lists.specs.Lists.{has}
+use Rattle.lists.specs.Below.{countBelow}
+use Rattle.lists.specs.Tests.{split, fails, and-left, and-right, or-cases}
+use Rattle.lists.specs.Loops.{anyBelow-at, anyBelow-none}
+use Rattle.lists.specs.Range.{count-listBelow, has-listBelow, listBelow-in, listBelow-ascends}
+use Rattle.network.specs.Limits.{maxDegree}
+use Rattle.network.specs.Holds.{TidyRow}
+use Rattle.file.specs.Bytes.{firstEnd, secondEnd}
+use Rattle.file.specs.Sections.{soundEnds}
+use Rattle.file.specs.Sound.{ends-facts}
+use Rattle.records.specs.Records.{names, joins, joined, neighbours, crowded}
+use Rattle.records.specs.Pairs.{neighbours-few}
+
+module _ (n m : ℕ) (r : List ℕ) (sound : soundEnds n m r ≡ true) where
+  -- who is joined is a bus, and another one
+  joined-buses : (i j : ℕ) → joined m r i j ≡ true → (j < n) × (j ≡ i → ⊥)
+  unfolding joined joins
+  joined-buses i j h =
+      let w = anyBelow-at _ m h in
+      let k = w .0 in
+      let a = firstEnd r k in
+      let b = secondEnd r k in
+      let e = ends-facts n m r sound k (w .1) in
+      ⊎-elim
+      (λ t. let p = eqb-true a i (and-left (eqb a i) (eqb b j) t) in
+      let q = eqb-true b j (and-right (eqb a i) (eqb b j) t) in (omega (arith, e .1, q), λ z. e .2 (p ∙ sym z ∙ sym q)))
+      (λ t. let p = eqb-true a j (and-left (eqb a j) (eqb b i) t) in
+      let q = eqb-true b i (and-right (eqb a j) (eqb b i) t) in (omega (arith, e .0, p), λ z. e .2 (p ∙ z ∙ sym q)))
+      (or-cases (eqb a i && eqb b j) (eqb a j && eqb b i) (w .2))
+
+  pub neighbours-tidy : (i : ℕ) → TidyRow n i (neighbours n m r i)
+  unfolding neighbours
+  neighbours-tidy i =
+      record {
+        below = λ k l. listBelow-in n (joined m r i) k l .0;
+        others = λ k l. joined-buses i _ (listBelow-in n (joined m r i) k l .1) .1;
+        ascends = listBelow-ascends n (joined m r i);
+      }
+
+  pub neighbours-short : crowded n m r ≡ false → (i : ℕ) → i < n → length (neighbours n m r i) ≤ maxDegree
+  unfolding crowded
+  neighbours-short free i l =
+      omega (arith, neighbours-few n m r (ends-facts n m r sound) i m (omega arith), ltb-false maxDegree (countBelow m (names r i)) (anyBelow-none (λ b. ltb maxDegree (countBelow m (names r b))) n free l))
+
+  -- j stands in row i exactly if a record joins i and j
+  pub neighbours-joined : (i j : ℕ) → has j (neighbours n m r i) ≡ joined m r i j
+  unfolding neighbours
+  neighbours-joined i j =
+      split (ltb j n)
+      (λ t. has-listBelow (joined m r i) (ltb-true j n t))
+      (λ t. rw (count-listBelow j n (joined m r i), t) (sym (fails (joined m r i j) (λ h. omega (arith, ltb-false j n t, joined-buses i j h .0)))))

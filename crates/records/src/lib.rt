@@ -1,0 +1,83 @@
+// The records of a network file: whether they crowd a bus or repeat a pair, and the rows that they fill.
+ghost use mathlib.Core.Bool.{true, false, not};
+ghost use mathlib.Core.Path.{_≡_};
+ghost use Prim.Native.Nat.{_*_, _≤_};
+ghost use lib.Dec.{ltb};
+ghost use lib.ListN.{length};
+ghost use Rattle.lists.specs.Lists.{at};
+ghost use Rattle.lists.specs.Below.{anyBelow};
+ghost use Rattle.network.specs.Limits.{maxBuses, maxDegree};
+ghost use Rattle.rows.specs.Held.{maxSlots, Blank};
+ghost use Rattle.records.specs.Records.{crowded, repeated};
+ghost use Rattle.records.specs.Filling.{SoundRecords, Named, Filled};
+use file::ends_of;
+use network::Network;
+use rows::add;
+use rows::blank_counts;
+use rows::bump;
+
+// Counts, for each bus, the records that name it.
+fn count_names(records: &[u8], n: usize, m: usize, counts: &mut [u16; Network::BUSES])
+    requires { ⌜ (4 * m ≤ length (now records)) × SoundRecords n m (now records) × Blank (now counts) ⌝ }
+    ensures { λ _. ⌜ Named m (now (records .entry)) (now (counts .exit)) ⌝ }
+{
+    let mut k = 0;
+    while k < m {
+        let ends = ends_of(records, k);
+        bump(counts, ends.first);
+        bump(counts, ends.second);
+        k += 1;
+    }
+}
+
+// Whether one of n counts is above the lines that a bus may have.
+fn too_many(counts: &[u16; Network::BUSES], n: usize) -> bool
+    requires { ⌜ n ≤ maxBuses ⌝ }
+    ensures { λ b. ⌜ b ≡ anyBelow n (λ bus. ltb maxDegree (at (now (counts .entry)) bus)) ⌝ }
+{
+    let mut bus = 0;
+    while bus < n {
+        if (Network::LINES_AT_BUS as u16) < counts[bus] {
+            return true;
+        }
+        bus += 1;
+    }
+    false
+}
+
+// Whether some bus stands in more records than it may have lines.
+pub fn crowded(records: &[u8], n: usize, m: usize) -> bool
+    requires { ⌜ (4 * m ≤ length (now records)) × SoundRecords n m (now records) ⌝ }
+    ensures { λ b. ⌜ b ≡ crowded n m (now (records .entry)) ⌝ }
+{
+    let mut counts = blank_counts();
+    count_names(records, n, m, &mut counts);
+    too_many(&counts, n)
+}
+
+// Inserts the ends of each record into one another's rows. Gives false at the first record whose pair is there already.
+pub fn fill(
+    records: &[u8],
+    n: usize,
+    m: usize,
+    slots: &mut [u16],
+    counts: &mut [u16; Network::BUSES],
+) -> bool
+    requires { ⌜ (4 * m ≤ length (now records)) × SoundRecords n m (now records) × (crowded n m (now records) ≡ false) ⌝ }
+    requires { ⌜ (length (now slots) ≡ maxSlots) × Blank (now counts) ⌝ }
+    ensures { λ b. ⌜ (b ≡ not (repeated m (now (records .entry)))) × (b ≡ true → Filled n m (now (records .entry)) (now (slots .exit)) (now (counts .exit))) ⌝ }
+{
+    let mut k = 0;
+    while k < m {
+        let ends = ends_of(records, k);
+        let a = ends.first;
+        let b = ends.second;
+        let inserted = add(slots, counts, a, b as u16);
+        if !inserted.added() {
+            return false;
+        }
+        add(slots, counts, b, a as u16);
+        k += 1;
+    }
+    true
+}
