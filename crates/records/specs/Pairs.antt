@@ -90,7 +90,7 @@ module _ (n m : ℕ) (r : List ℕ) (ends : (k : ℕ) → k < m → (firstEnd r 
 
   pub neighbours-few : (i k : ℕ) → k ≤ m → length (neighbours n k r i) ≤ countBelow k (names r i)
   unfolding neighbours
-  neighbours-few i k l = rw (length-listBelow n (joined k r i)) (joined-few i k l)
+  neighbours-few i k l = omega (arith, length-listBelow n (joined k r i), joined-few i k l)
 
   -- and just as many where no pair repeats
   module _ (once : repeated m r ≡ false) where
