@@ -4,13 +4,12 @@ use mathlib.Core.List.{List}
 use mathlib.Core.Path.{_≡_, sym, ap, ap₂, _∙_}
 use Prim.Native.Nat.{ℕ, _+_, _<_}
 use native.Mathlib.Omega.{arith}
-use borrow.Author.Tests.{ltb-false, eq-eqb, ne-eqb}
-use lib.Dec.{eqb, ltb}
+use borrow.Author.Tests.{eq-eqb, ne-eqb}
+use lib.Dec.{eqb}
 use lib.ListN.{length}
 use Rattle.lists.specs.Lists.{has}
-use Rattle.lists.specs.Below.{anyBelow, countBelow}
+use Rattle.lists.specs.Below.{anyBelow}
 use Rattle.lists.specs.Tests.{or-left, or-right}
-use Rattle.lists.specs.Loops.{anyBelow-none}
 use Rattle.lists.specs.Range.{listBelow-same, listBelow-none, has-listBelow, countBelow-more}
 use Rattle.network.specs.Limits.{maxBuses, maxDegree}
 use Rattle.insertion.specs.declared.Inserted.{Inserted}
@@ -23,7 +22,7 @@ use Rattle.file.specs.Bytes.{firstEnd, secondEnd}
 use Rattle.file.specs.Sound.{ends-facts}
 use Rattle.records.specs.Records.{names, joins, joined, neighbours, crowded, repeats}
 use Rattle.records.specs.Filling.{SoundRecords, Filled}
-use Rattle.records.specs.Pairs.{joined-sym, joined-next, neighbours-few}
+use Rattle.records.specs.Pairs.{joined-sym, joined-next, neighbours-few, names-few}
 use Rattle.records.proofs.Naming.{read-ends}
 
 -- without records no bus has a neighbour
@@ -52,13 +51,12 @@ row-next n k r {x} {y} e lx ly i =
 module _ {n m : ℕ} {r : List ℕ} (g : SoundRecords n m r) (free : crowded n m r ≡ false) {k : ℕ} (b : k < m) {x y : ℕ} (e : (x ≡ firstEnd r k) × (y ≡ secondEnd r k)) where
   -- a bus that the record names has room for a neighbour more
   room : (z : ℕ) → z < n → names r z k ≡ true → length (neighbours n k r z) < maxDegree
-  unfolding crowded
   room z l h =
       omega (
         arith,
         neighbours-few n m r (ends-facts n m r (g .sound)) z k (omega arith),
         countBelow-more (names r z) k m b h,
-        ltb-false maxDegree (countBelow m (names r z)) (anyBelow-none (λ b. ltb maxDegree (countBelow m (names r b))) n free l),
+        names-few n m r free z l,
       )
 
   room-first : length (neighbours n k r x) < maxDegree

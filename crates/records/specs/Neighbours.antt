@@ -9,17 +9,16 @@ use borrow.Author.Tests.{ltb-true, ltb-false, eqb-true}
 use lib.Dec.{ltb, eqb}
 use lib.ListN.{length}
 use Rattle.lists.specs.Lists.{has}
-use Rattle.lists.specs.Below.{countBelow}
 use Rattle.lists.specs.Tests.{split, fails, and-left, and-right, or-cases}
-use Rattle.lists.specs.Loops.{anyBelow-at, anyBelow-none}
+use Rattle.lists.specs.Loops.{anyBelow-at}
 use Rattle.lists.specs.Range.{count-listBelow, has-listBelow, listBelow-in, listBelow-ascends}
 use Rattle.network.specs.Limits.{maxDegree}
 use Rattle.network.specs.Holds.{TidyRow}
 use Rattle.file.specs.Bytes.{firstEnd, secondEnd}
 use Rattle.file.specs.Sections.{soundEnds}
 use Rattle.file.specs.Sound.{ends-facts}
-use Rattle.records.specs.Records.{names, joins, joined, neighbours, crowded}
-use Rattle.records.specs.Pairs.{neighbours-few}
+use Rattle.records.specs.Records.{joins, joined, neighbours, crowded}
+use Rattle.records.specs.Pairs.{neighbours-few, names-few}
 
 module _ (n m : ℕ) (r : List ℕ) (sound : soundEnds n m r ≡ true) where
   -- who is joined is a bus, and another one
@@ -48,9 +47,7 @@ module _ (n m : ℕ) (r : List ℕ) (sound : soundEnds n m r ≡ true) where
       }
 
   pub neighbours-short : crowded n m r ≡ false → (i : ℕ) → i < n → length (neighbours n m r i) ≤ maxDegree
-  unfolding crowded
-  neighbours-short free i l =
-      omega (arith, neighbours-few n m r (ends-facts n m r sound) i m (omega arith), ltb-false maxDegree (countBelow m (names r i)) (anyBelow-none (λ b. ltb maxDegree (countBelow m (names r b))) n free l))
+  neighbours-short free i l = omega (arith, neighbours-few n m r (ends-facts n m r sound) i m (omega arith), names-few n m r free i l)
 
   -- j stands in row i exactly if a record joins i and j
   pub neighbours-joined : (i j : ℕ) → has j (neighbours n m r i) ≡ joined m r i j

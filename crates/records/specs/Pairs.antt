@@ -5,8 +5,8 @@ use mathlib.Core.Logic.{⊎-elim}
 use mathlib.Core.Path.{_≡_, sym, ap, ap₂, _∙_, fun-ext}
 use Prim.Native.Nat.{ℕ, zero, suc, _+_, _*_, _≤_, _<_}
 use native.Mathlib.Omega.{arith}
-use borrow.Author.Tests.{eqb-true, ne-eqb}
-use lib.Dec.{eqb}
+use borrow.Author.Tests.{ltb-false, eqb-true, ne-eqb}
+use lib.Dec.{ltb, eqb}
 use lib.ListN.{length}
 use Rattle.lists.specs.Lists.{tally}
 use Rattle.lists.specs.Below.{anyBelow, sumBelow, countBelow, joinBelow}
@@ -14,8 +14,9 @@ use Rattle.lists.specs.Tests.{and-left, and-right, or-cases}
 use Rattle.lists.specs.Sums.{tally-or, tally-or-le}
 use Rattle.lists.specs.Loops.{anyBelow-next, anyBelow-none}
 use Rattle.lists.specs.Range.{sumBelow-same, sumBelow-add, sumBelow-le, sumBelow-const, countBelow-one, length-joinBelow, length-listBelow}
+use Rattle.network.specs.Limits.{maxDegree}
 use Rattle.file.specs.Bytes.{firstEnd, secondEnd}
-use Rattle.records.specs.Records.{names, joins, joined, neighbours, repeats, repeated}
+use Rattle.records.specs.Records.{names, joins, joined, neighbours, crowded, repeats, repeated}
 
 -- who is joined to whom, either way round
 pub joined-sym : (m : ℕ) (r : List ℕ) (i j : ℕ) → joined m r i j ≡ joined m r j i
@@ -122,3 +123,8 @@ module _ (n m : ℕ) (r : List ℕ) (ends : (k : ℕ) → k < m → (firstEnd r 
         length-joinBelow n (neighbours n m r)
         ∙ sumBelow-same _ _ n (λ i l. length-listBelow n (joined m r i) ∙ joined-all i m (omega arith))
         ∙ named-all m (omega arith)
+
+-- where no bus is crowded, each stands in few records
+pub names-few : (n m : ℕ) (r : List ℕ) → crowded n m r ≡ false → (b : ℕ) → b < n → countBelow m (names r b) ≤ maxDegree
+unfolding crowded
+names-few n m r free b l = ltb-false maxDegree _ (anyBelow-none (λ b. ltb maxDegree (countBelow m (names r b))) n free l)
