@@ -13,16 +13,6 @@ use Rattle.network.specs.Limits.{maxBuses, maxDegree}
 use Rattle.network.specs.Layout.{rowAt, laid, size, needs, starts, last, links, startsAt, row, tableOf}
 use Rattle.network.specs.Holds.{FairNeeds, TidyRow, SoundRows, Holds}
 
-pub length-laid : (f : ℕ → List ℕ) (n : ℕ) → length (laid n f) ≡ n + 1 + length (joinBelow n f)
-unfolding laid
-length-laid f n =
-    length-append (mapBelow (n + 1) (λ i. length (joinBelow i f))) (joinBelow n f) ∙ ap (λ k. k + length (joinBelow n f)) (length-mapBelow (n + 1) _)
-
-pub laid-same : (f g : ℕ → List ℕ) (n : ℕ) → ((i : ℕ) → i < n → f i ≡ g i) → laid n f ≡ laid n g
-unfolding laid
-laid-same f g n h =
-    ap₂ _++_ (mapBelow-same _ _ (n + 1) (λ i l. ap length (joinBelow-same f g i (λ j m. h j (omega arith))))) (joinBelow-same f g n h)
-
 module _ (n : ℕ) (rows : ℕ → List ℕ) where
   abbrev firsts : List ℕ
   firsts = mapBelow (n + 1) (λ i. length (joinBelow i rows))
@@ -87,6 +77,16 @@ module _ (n : ℕ) (rows : ℕ → List ℕ) where
           first = first-at 0 (omega arith);
           tidy = λ i b. rw (row-back i b) (tidy i b);
         }
+
+pub length-laid : (f : ℕ → List ℕ) (n : ℕ) → length (laid n f) ≡ n + 1 + length (joinBelow n f)
+unfolding laid
+length-laid f n =
+    length-append (mapBelow (n + 1) (λ i. length (joinBelow i f))) (joinBelow n f) ∙ ap (λ k. k + length (joinBelow n f)) (length-mapBelow (n + 1) _)
+
+pub laid-same : (f g : ℕ → List ℕ) (n : ℕ) → ((i : ℕ) → i < n → f i ≡ g i) → laid n f ≡ laid n g
+unfolding laid
+laid-same f g n h =
+    ap₂ _++_ (mapBelow-same _ _ (n + 1) (λ i l. ap length (joinBelow-same f g i (λ j m. h j (omega arith))))) (joinBelow-same f g n h)
 
 pub length-tableOf : (n : ℕ) (q : List ℕ) (rows : ℕ → List ℕ) → length q ≡ n → length (tableOf n q rows) ≡ 2 * n + 2 + length (joinBelow n rows)
 unfolding tableOf
