@@ -17,7 +17,7 @@ use Rattle.lists.specs.Range.{countBelow-le}
 use Rattle.network.specs.Limits.{maxBuses, maxDegree}
 use Rattle.rows.specs.Held.{Blank}
 use Rattle.file.specs.Bytes.{firstEnd, secondEnd}
-use Rattle.file.specs.Sound.{ends-facts}
+use Rattle.file.specs.Sound.{TwoBuses, ends-facts, ends-test}
 use Rattle.records.specs.Records.{names, crowded}
 use Rattle.records.specs.Filling.{SoundRecords, Named}
 use Rattle.records.specs.Pairs.{named-once}
@@ -30,6 +30,15 @@ bumped l a x h =
     (λ t. let q = eqb-true a x t in rw (eqb-comm x a, t) (ap (λ y. at l y + 1) q))
     (λ t. rw (eqb-comm x a, t) (omega arith))
 
+-- sound ends are buses of the widest network
+pub widest : {n m : ℕ} {r : List ℕ} → SoundRecords n m r → SoundRecords maxBuses m r
+widest {n} {m} {r} g =
+    record {
+      buses = omega arith;
+      lines = g .lines;
+      sound = ends-test maxBuses m r (λ k b. let f = ends-facts n m r (g .sound) k b in (omega (arith, f .0, g .buses), omega (arith, f .1, g .buses), f .2));
+    }
+
 pub named-none : (r : List ℕ) {l : List ℕ} → Blank l → Named 0 r l
 unfolding sumBelow
 named-none r w = record { size = w .size; each = w .clear }
@@ -37,15 +46,18 @@ named-none r w = record { size = w .size; each = w .clear }
 -- x and y were read of record k, and one more counted at each
 module _ {n m : ℕ} {r : List ℕ} (g : SoundRecords n m r) {k : ℕ} (b : k < m) {x y : ℕ} (e : (x ≡ firstEnd r k) × (y ≡ secondEnd r k)) where
   -- they are two different buses
-  pub read-ends : (x < n) × (y < n) × (x ≡ y → ⊥)
+  pub read-ends : TwoBuses n x y
   read-ends = let f = ends-facts n m r (g .sound) k b in (omega (arith, f .0, e .0), omega (arith, f .1, e .1), λ q. f .2 (sym (e .0) ∙ q ∙ e .1))
 
+  pub read-low : (x < maxBuses) × (y < maxBuses)
+  read-low = (omega (arith, g .buses, read-ends .0), omega (arith, g .buses, read-ends .1))
+
   pub first-counts : {l : List ℕ} → Named k r l → (x < maxBuses) × (at l x < 65535)
-  first-counts w = (omega (arith, g .buses, read-ends .0), omega (arith, w .each x, countBelow-le (names r x) k, g .lines))
+  first-counts w = (read-low .0, omega (arith, w .each x, countBelow-le (names r x) k, g .lines))
 
   module _ {l l′ : List ℕ} (w : Named k r l) (p : l′ ≡ set l x (at l x + 1)) where
     at′ : (z : ℕ) → at l′ z ≡ at l z + tally (eqb x z)
-    at′ z = ap (λ u. at u z) p ∙ bumped l x z (omega (arith, w .size, g .buses, read-ends .0))
+    at′ z = ap (λ u. at u z) p ∙ bumped l x z (omega (arith, w .size, read-low .0))
 
     size′ : length l′ ≡ maxBuses
     size′ = ap length p ∙ length-set l x (at l x + 1) ∙ w .size
@@ -53,7 +65,7 @@ module _ {n m : ℕ} {r : List ℕ} (g : SoundRecords n m r) {k : ℕ} (b : k < 
     -- there is room for one more
     pub second-counts : (y < maxBuses) × (at l′ y < 65535)
     second-counts =
-        (omega (arith, g .buses, read-ends .1), omega (arith, at′ y, tally-le (eqb x y), w .each y, countBelow-le (names r y) k, g .lines))
+        (read-low .1, omega (arith, at′ y, tally-le (eqb x y), w .each y, countBelow-le (names r y) k, g .lines))
 
     pub named-more : {l″ : List ℕ} → l″ ≡ set l′ y (at l′ y + 1) → Named (k + 1) r l″
     unfolding names

@@ -23,7 +23,7 @@ use Rattle.file.specs.Sound.{ends-facts}
 use Rattle.records.specs.Records.{names, joins, joined, neighbours, crowded, repeats}
 use Rattle.records.specs.Filling.{SoundRecords, Filled}
 use Rattle.records.specs.Pairs.{joined-sym, joined-next, neighbours-few, names-few}
-use Rattle.records.proofs.Naming.{read-ends}
+use Rattle.records.proofs.Naming.{read-ends, read-low}
 
 -- without records no bus has a neighbour
 pub filled-none : (n : ℕ) (r : List ℕ) {slots counts : List ℕ} → length slots ≡ maxSlots → Blank counts → Filled n 0 r slots counts
@@ -68,19 +68,13 @@ module _ {n m : ℕ} {r : List ℕ} (g : SoundRecords n m r) (free : crowded n m
   room-second = room y (read-ends g b e .1) (or-right (eqb (firstEnd r k) y) _ (eq-eqb (secondEnd r k) y (sym (e .1))))
 
   module _ {slots counts : List ℕ} (w : Filled n k r slots counts) where
-    low-first : x < maxBuses
-    low-first = omega (arith, g .buses, read-ends g b e .0)
-
-    low-second : y < maxBuses
-    low-second = omega (arith, g .buses, read-ends g b e .1)
-
     pub fits : length (held slots counts x) < maxDegree
-    fits = rw (w .each x low-first) room-first
+    fits = rw (w .each x (read-low g b e .0)) room-first
 
     -- y stands in row x if an earlier record joins the two
     pub seen : has y (held slots counts x) ≡ repeats r k
     unfolding neighbours repeats
-    seen = ap (has y) (w .each x low-first) ∙ has-listBelow (joined k r x) (read-ends g b e .1) ∙ ap₂ (joined k r) (e .0) (e .1)
+    seen = ap (has y) (w .each x (read-low g b e .0)) ∙ has-listBelow (joined k r x) (read-ends g b e .1) ∙ ap₂ (joined k r) (e .0) (e .1)
 
     -- y was added to row x
     module _ {s c : List ℕ} (o : RowsAfter Added y x slots counts s c) where
@@ -88,7 +82,7 @@ module _ {n m : ℕ} {r : List ℕ} (g : SoundRecords n m r) (free : crowded n m
       one i l = o .2 .each i l ∙ ap (λ z. cond (eqb x i) (insert y z) z) (w .each i l)
 
       other : held s c y ≡ neighbours n k r y
-      other = one y low-second ∙ ap (λ t. cond t (insert y (neighbours n k r y)) (neighbours n k r y)) (ne-eqb x y (read-ends g b e .2))
+      other = one y (read-low g b e .1) ∙ ap (λ t. cond t (insert y (neighbours n k r y)) (neighbours n k r y)) (ne-eqb x y (read-ends g b e .2))
 
       -- x does not stand in row y
       absent : has x (held s c y) ≡ false
@@ -96,7 +90,7 @@ module _ {n m : ℕ} {r : List ℕ} (g : SoundRecords n m r) (free : crowded n m
       absent =
           ap (has x) other
           ∙ has-listBelow (joined k r y) (read-ends g b e .0)
-          ∙ joined-sym k r y x ∙ sym (has-listBelow (joined k r x) (read-ends g b e .1)) ∙ sym (ap (has y) (w .each x low-first)) ∙ o .0
+          ∙ joined-sym k r y x ∙ sym (has-listBelow (joined k r x) (read-ends g b e .1)) ∙ sym (ap (has y) (w .each x (read-low g b e .0))) ∙ o .0
 
       -- and then x is added to row y
       pub filled-more : (q : Inserted) (s′ c′ : List ℕ) → RowsAfter q x y s c s′ c′ → Filled n (k + 1) r s′ c′

@@ -16,6 +16,7 @@ use Rattle.lists.specs.Loops.{anyBelow-next, anyBelow-none}
 use Rattle.lists.specs.Range.{sumBelow-same, sumBelow-add, sumBelow-le, sumBelow-const, countBelow-one, length-joinBelow, length-listBelow}
 use Rattle.network.specs.Limits.{maxDegree}
 use Rattle.file.specs.Bytes.{firstEnd, secondEnd}
+use Rattle.file.specs.Sound.{SoundEnds}
 use Rattle.records.specs.Records.{names, joins, joined, neighbours, crowded, repeats, repeated}
 
 -- who is joined to whom, either way round
@@ -70,7 +71,7 @@ module _ (a b : ℕ) (apart : a ≡ b → ⊥) where
         never j e = ap (λ t. t && eqb b j) (ne-eqb a i (λ q. apart (q ∙ sym (eqb-true b i (and-right (eqb a j) (eqb b i) e)))))
 
 -- m records whose ends are two different buses below n
-module _ (n m : ℕ) (r : List ℕ) (ends : (k : ℕ) → k < m → (firstEnd r k < n) × (secondEnd r k < n) × (firstEnd r k ≡ secondEnd r k → ⊥)) where
+module _ (n m : ℕ) (r : List ℕ) (ends : SoundEnds n m r) where
   joins-count : (i k : ℕ) → k < m → countBelow n (λ j. joins r i j k) ≡ tally (names r i k)
   unfolding joins names
   joins-count i k l = let e = ends k l in joined-to (firstEnd r k) (secondEnd r k) (e .2) n (e .0) (e .1) i
@@ -93,6 +94,19 @@ module _ (n m : ℕ) (r : List ℕ) (ends : (k : ℕ) → k < m → (firstEnd r 
   unfolding neighbours
   neighbours-few i k l = omega (arith, length-listBelow n (joined k r i), joined-few i k l)
 
+  -- each record names two buses
+  named-all : (k : ℕ) → k ≤ m → sumBelow n (λ i. countBelow k (names r i)) ≡ 2 * k
+  unfolding sumBelow names
+  named-all zero l = sumBelow-const 0 n ∙ omega arith
+  named-all (suc k) l =
+      let e = ends k l in
+      omega (
+        arith,
+        sumBelow-add (λ i. countBelow k (names r i)) (λ i. tally (names r i k)) n,
+        named-all k (omega arith),
+        named-twice (firstEnd r k) (secondEnd r k) (e .2) n (e .0) (e .1),
+      )
+
   -- and just as many where no pair repeats
   module _ (once : repeated m r ≡ false) where
     joined-all : (i k : ℕ) → k ≤ m → countBelow n (joined k r i) ≡ countBelow k (names r i)
@@ -102,19 +116,6 @@ module _ (n m : ℕ) (r : List ℕ) (ends : (k : ℕ) → k < m → (firstEnd r 
         sumBelow-same _ _ n (λ j h. tally-or (joined k r i j) (joins r i j k) (λ e. joins-own r i j k e ∙ anyBelow-none (repeats r) m once l))
         ∙ sumBelow-add (λ j. tally (joined k r i j)) (λ j. tally (joins r i j k)) n
         ∙ ap₂ _+_ (joined-all i k (omega arith)) (joins-count i k l)
-
-    -- each record names two buses
-    named-all : (k : ℕ) → k ≤ m → sumBelow n (λ i. countBelow k (names r i)) ≡ 2 * k
-    unfolding sumBelow names
-    named-all zero l = sumBelow-const 0 n ∙ omega arith
-    named-all (suc k) l =
-        let e = ends k l in
-        omega (
-          arith,
-          sumBelow-add (λ i. countBelow k (names r i)) (λ i. tally (names r i k)) n,
-          named-all k (omega arith),
-          named-twice (firstEnd r k) (secondEnd r k) (e .2) n (e .0) (e .1),
-        )
 
     -- so that the rows have two numbers for each record
     pub rows-length : length (joinBelow n (neighbours n m r)) ≡ 2 * m

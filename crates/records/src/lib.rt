@@ -17,8 +17,8 @@ use rows::blank_counts;
 use rows::bump;
 
 // Counts, for each bus, the records that name it.
-fn count_names(records: &[u8], n: usize, m: usize, counts: &mut [u16; Network::BUSES])
-    requires { ⌜ (4 * m ≤ length (now records)) × SoundRecords n m (now records) × Blank (now counts) ⌝ }
+fn count_names(records: &[u8], m: usize, counts: &mut [u16; Network::BUSES])
+    requires { ⌜ (4 * m ≤ length (now records)) × SoundRecords maxBuses m (now records) × Blank (now counts) ⌝ }
     ensures { λ _. ⌜ Named m (now (records .entry)) (now (counts .exit)) ⌝ }
 {
     let mut k = 0;
@@ -51,11 +51,11 @@ pub fn crowded(records: &[u8], n: usize, m: usize) -> bool
     ensures { λ b. ⌜ b ≡ crowded n m (now (records .entry)) ⌝ }
 {
     let mut counts = blank_counts();
-    count_names(records, n, m, &mut counts);
+    count_names(records, m, &mut counts);
     too_many(&counts, n)
 }
 
-// Inserts the ends of each record into one another's rows. Gives false at the first record whose pair is there already.
+// Inserts the ends of each record of a network of n buses into one another's rows. Gives false at the first record whose pair is there already.
 pub fn fill(
     records: &[u8],
     n: usize,

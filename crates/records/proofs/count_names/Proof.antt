@@ -8,10 +8,10 @@ use Rattle.records.proofs.count_names.Statement.{statement}
 use Rattle.records.proofs.count_names.Tie as tie
 
 abbrev Inv-loop : tie.InvT-loop
-Inv-loop records n m counts₀ k₀ counts k = (k ≤ m) × Named k records counts
+Inv-loop records m counts₀ k₀ counts k = (k ≤ m) × Named k records counts
 
 abbrev μ-loop : tie.MeasureT-loop
-μ-loop records n m counts₀ k₀ counts k = m - k
+μ-loop records m counts₀ k₀ counts k = m - k
 
 -- where a record was read
 abbrev start : tie.After-ends-of Inv-loop μ-loop → tie.Start Inv-loop μ-loop

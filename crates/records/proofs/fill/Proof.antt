@@ -13,7 +13,7 @@ use Rattle.rows.specs.Held.{RowsAfter}
 use Rattle.rows.specs.HeldRows.{was-added, must-have}
 use Rattle.records.specs.Records.{repeated}
 use Rattle.records.specs.Filling.{Filled}
-use Rattle.records.proofs.Naming.{read-ends}
+use Rattle.records.proofs.Naming.{read-low}
 use Rattle.records.proofs.Turning.{filled-none, fits, seen, filled-more}
 use Rattle.records.proofs.fill.Statement.{statement}
 use Rattle.records.proofs.fill.Tie as tie
@@ -43,7 +43,7 @@ added : (c : tie.Else1 Inv-loop μ-loop) → let p = add-place c in let e = ends
 added c = was-added (add-place c .add .result) _ _ _ _ _ _ (passed (c .before .added .ensures) (c .if1 .left)) (add-place c .add .ensures)
 
 low : (e : tie.After-ends-of Inv-loop μ-loop) → (e .ends-of .result .first < maxBuses) × (e .ends-of .result .second < maxBuses)
-low e = let g = start e .pre .0 .1 in let z = read-ends g (e .before .loop-test .taken) (e .ends-of .ensures) in (omega (arith, g .buses), omega (arith, g .buses))
+low e = read-low (start e .pre .0 .1) (e .before .loop-test .taken) (e .ends-of .ensures)
 
 cast-add : tie.Need-cast-add Inv-loop μ-loop
 cast-add c = omega (arith, low (c .before .before))
