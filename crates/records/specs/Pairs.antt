@@ -107,7 +107,7 @@ module _ (n m : ℕ) (r : List ℕ) (ends : SoundEnds n m r) where
         named-twice (firstEnd r k) (secondEnd r k) (e .2) n (e .0) (e .1),
       )
 
-  -- and just as many where no pair repeats
+  -- where no pair repeats, a bus has just as many neighbours as records that name it
   module _ (once : repeated m r ≡ false) where
     joined-all : (i k : ℕ) → k ≤ m → countBelow n (joined k r i) ≡ countBelow k (names r i)
     unfolding joined anyBelow sumBelow repeated
