@@ -1,16 +1,18 @@
 -- `lcmOf` is the least common multiple and there is no other; `lcmAll` is that of a whole list. Assumes nothing.
-use mathlib.Core.List.{List, [], _∷_, _++_}
-use mathlib.Core.Logic.{_⊎_, inl, inr, ⊎-elim}
+use mathlib.Core.List.{List, [], _∷_}
+use mathlib.Core.Logic.{_⊎_, inl, inr}
 use mathlib.Core.Path.{_≡_, sym, ap, _∙_}
-use Prim.Native.Nat.{ℕ, _*_, _/_, _<_, _∣_}
-use native.Mathlib.Nat.{eq-zero-or-pos, mul-comm, mul-assoc, zero-mul, zero-div, div-mul-cancel, mul-div-cancel'}
-use native.Mathlib.Nat.{dvd-zero, dvd-trans, dvd-antisymm, dvd-mul-left, dvd-mul-right, one-dvd, mul-dvd-mul-left, dvd-of-mul-dvd-mul-left, eq-zero-of-zero-dvd}
+use Prim.Native.Nat.{ℕ, _+_, _*_, _/_, _<_, _∣_}
+use native.Mathlib.Nat.{eq-zero-or-pos, mul-comm, mul-assoc, one-mul, zero-mul, zero-div, div-mul-cancel, mul-div-cancel'}
+use native.Mathlib.Nat.{dvd-zero, dvd-trans, dvd-antisymm, dvd-mul-left, dvd-mul-right, one-dvd, dvd-add-iff-right, mul-dvd-mul-left, dvd-of-mul-dvd-mul-left, eq-zero-of-zero-dvd}
 use native.Mathlib.Omega.{arith}
 use lib.Dec.{eqb}
 use borrow.Author.Tests.{eqb-true}
 use Rattle.lists.specs.Lists.{tally, count, _∈_}
+use Rattle.lists.specs.Below.{mapBelow}
 use Rattle.lists.specs.Tests.{split}
 use Rattle.lists.specs.Counts.{in-first, count-append}
+use Rattle.lists.specs.Loops.{mapBelow-next}
 use Rattle.fraction.specs.Divisors.{IsGcd, gcdOf, IsLcm, lcmOf, lcmAll, CommonMultiple}
 use Rattle.fraction.specs.Gcd.{gcd-is, is-gcdOf, gcd-scale}
 
@@ -60,6 +62,18 @@ pub lcm-by-gcd : {a b g : ℕ} → IsGcd a b g → a / g * b ≡ lcmOf a b
 unfolding lcmOf
 lcm-by-gcd {a} {b} i = rw (is-gcdOf i)
 
+-- what two numbers divide that share no factor, their product divides
+coprime-product : (a b m : ℕ) → gcdOf a b ≡ 1 → a ∣ m → b ∣ m → a * b ∣ m
+coprime-product a b m e p q =
+    let product : lcmOf a b ≡ a * b = sym (one-mul (lcmOf a b)) ∙ ap (λ g. g * lcmOf a b) (sym e) ∙ gcd-lcm a b in
+    rw product at (lcm-least a b m p q)
+
+-- d and d + 1 share no factor
+pub next-product : (d m : ℕ) → d ∣ m → d + 1 ∣ m → d * (d + 1) ∣ m
+next-product d m =
+    coprime-product d (d + 1) m
+    (sym (is-gcdOf (record { left = one-dvd d; right = one-dvd (d + 1); greatest = λ c p q. dvd-add-iff-right c p .1 q })))
+
 -- ---- of a list
 
 pub lcmAll-multiple : (l : List ℕ) → CommonMultiple l (lcmAll l)
@@ -80,17 +94,10 @@ lcmAll-least (x ∷ l) m h = lcm-least x (lcmAll l) m (h x (in-first x l)) (lcmA
 pub lcmAll-part : (l k : List ℕ) → ((x : ℕ) → x ∈ l → x ∈ k) → lcmAll l ∣ lcmAll k
 lcmAll-part l k h = lcmAll-least l (lcmAll k) (λ x i. lcmAll-multiple k x (h x i))
 
--- of two lists joined
-pub lcmAll-append : (l k : List ℕ) → lcmAll (l ++ k) ≡ lcmOf (lcmAll l) (lcmAll k)
-lcmAll-append l k =
-    dvd-antisymm (lcmAll-least (l ++ k) (lcmOf (lcmAll l) (lcmAll k)) all)
-    (lcm-least (lcmAll l) (lcmAll k) (lcmAll (l ++ k))
-    (lcmAll-part l (l ++ k) (λ x i. omega (arith, count-append x l k)))
-    (lcmAll-part k (l ++ k) (λ x i. omega (arith, count-append x l k))))
+-- one number more, as a loop folds it
+pub lcmAll-next : (f : ℕ → ℕ) (n : ℕ) → lcmOf (f n) (lcmAll (mapBelow n f)) ≡ lcmAll (mapBelow (n + 1) f)
+unfolding lcmAll
+lcmAll-next f n = dvd-antisymm (lcmAll-part (f n ∷ mapBelow n f) (mapBelow (n + 1) f) (λ x i. omega (arith, same x))) (lcmAll-part (mapBelow (n + 1) f) (f n ∷ mapBelow n f) (λ x i. omega (arith, same x)))
   where
-    all : CommonMultiple (l ++ k) (lcmOf (lcmAll l) (lcmAll k))
-    all x i =
-        let both = lcm-is (lcmAll l) (lcmAll k) in
-        ⊎-elim
-        (λ z. dvd-trans x (lcmAll-multiple k x (omega (arith, count-append x l k))) (both .right))
-        (λ p. dvd-trans x (lcmAll-multiple l x p) (both .left)) (eq-zero-or-pos (count x l))
+    same : (x : ℕ) → count x (mapBelow (n + 1) f) ≡ count x (mapBelow n f) + count x (f n ∷ [])
+    same x = ap (count x) (mapBelow-next n f) ∙ count-append x (mapBelow n f) (f n ∷ [])

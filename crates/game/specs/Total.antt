@@ -14,7 +14,7 @@ use Rattle.lists.specs.Counts.{sumBy-cong-in, sumBy-part}
 use Rattle.game.specs.Game.{Game, degree, ownTerm, neighbourTerm, own, neighbour, numerator, GameOn, Common}
 
 -- L / (d + 1), over the finer denominator
-coarser : (d L : ℕ) → 0 < d → d * (d + 1) ∣ L → L / (d + 1) ≡ d * (L / (d * (d + 1)))
+pub coarser : (d L : ℕ) → 0 < d → d * (d + 1) ∣ L → L / (d + 1) ≡ d * (L / (d * (d + 1)))
 coarser d L hd h =
     let q = L / (d * (d + 1)) in
     div-eq-of-eq-mul-left {n = d + 1} {m = L} {k = d * q} (omega arith) (omega (arith, div-mul-cancel (d * (d + 1)) h))
@@ -23,7 +23,7 @@ whole : (k e q d L : ℕ) → k + e ≡ d + 1 → q * (d * (d + 1)) ≡ L → k 
 whole k e q d L a b = omega (arith, ap (λ x. x * (d * q)) a)
 
 -- a bus's own term and the terms of its d watchers make up all of L
-terms-whole : (k d L : ℕ) → 0 < k → (0 < d → d * (d + 1) ∣ L) → ownTerm k d L + d * neighbourTerm k d L ≡ L
+pub terms-whole : (k d L : ℕ) → 0 < k → (0 < d → d * (d + 1) ∣ L) → ownTerm k d L + d * neighbourTerm k d L ≡ L
 unfolding ownTerm neighbourTerm
 terms-whole k d L hk hL =
     split (leb k d)

@@ -1,8 +1,8 @@
--- Tests, sums, counts and lists over the numbers 0, 1, .. below a bound. Recursion goes from the end: one step is one turn of a counting loop.
+-- Tests, sums, counts, largest values and lists over the numbers 0, 1, .. below a bound. Recursion goes from the end: one step is one turn of a counting loop.
 -- Definitions only. Assumes nothing.
 use mathlib.Core.Bool.{Bool, true, false, cond, _&&_, _||_}
 use mathlib.Core.List.{List, [], _∷_, _++_}
-use Prim.Native.Nat.{ℕ, zero, suc, _+_}
+use Prim.Native.Nat.{ℕ, zero, suc, _+_, max}
 use Rattle.lists.specs.Lists.{tally}
 
 -- does every number below n pass?
@@ -23,6 +23,11 @@ sumBelow (suc n) f = sumBelow n f + f n
 -- how many numbers below n pass
 abbrev pub countBelow : ℕ → (ℕ → Bool) → ℕ
 countBelow n p = sumBelow n (λ i. tally (p i))
+
+-- the largest of f 0, f 1, .. up to f (n - 1); 0 where there is none
+unfoldable pub largestBelow : ℕ → (ℕ → ℕ) → ℕ
+largestBelow zero f = 0
+largestBelow (suc n) f = max (largestBelow n f) (f n)
 
 -- the lists f 0, f 1, .. up to f (n - 1), joined
 unfoldable pub joinBelow : ℕ → (ℕ → List ℕ) → List ℕ

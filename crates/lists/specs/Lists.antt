@@ -2,6 +2,7 @@
 -- Definitions only. Assumes nothing.
 use mathlib.Core.Bool.{Bool, cond}
 use mathlib.Core.List.{List, [], _∷_, _++_}
+use mathlib.Core.Path.{_≡_}
 use Prim.Native.Nat.{ℕ, _+_, _-_, _≤_, _<_}
 use lib.Dec.{eqb, ltb}
 use lib.ListN.{length, getD, take, drop}
@@ -57,6 +58,10 @@ part a e l = take (e - a) (drop a l)
 -- each entry of a list is above those before it
 abbrev pub Ascending : List ℕ → Type 0
 Ascending l = (j k : ℕ) → j < k → k < length l → at l j < at l k
+
+-- the first n entries of l are f 0, f 1, .. up to f (n - 1)
+abbrev pub Tabled : ℕ → (ℕ → ℕ) → List ℕ → Type 0
+Tabled n f l = (i : ℕ) → i < n → at l i ≡ f i
 
 -- t with vs written over its entries from place i on
 unfoldable pub put : List ℕ → ℕ → List ℕ → List ℕ

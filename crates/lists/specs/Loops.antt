@@ -4,16 +4,18 @@ use mathlib.Core.Bool.{Bool, true, false, _&&_, _||_, true≢false}
 use mathlib.Core.List.{List, [], _∷_, _++_}
 use mathlib.Core.Logic.{_⊎_, ⊎-elim}
 use mathlib.Core.Path.{_≡_, refl, sym, subst, _∙_}
-use Prim.Native.Nat.{ℕ, zero, suc, _+_, _≤_, _<_}
+use Prim.Native.Nat.{ℕ, zero, suc, _+_, _≤_, _<_, max}
 use native.Mathlib.Nat.{not-suc-le-zero, eq-or-lt-of-le, le-of-suc-le-suc}
 use native.Mathlib.Numerals.{add-one}
 use native.Mathlib.Omega.{arith}
-use lib.ListN.{length, take}
-use Rattle.lists.specs.Lists.{sumBy, at}
-use Rattle.lists.specs.Below.{allBelow, anyBelow, sumBelow, joinBelow, mapBelow}
+use borrow.Author.Tests.{eqb-true, eqb-false}
+use lib.Dec.{eqb}
+use lib.ListN.{length, set, take}
+use Rattle.lists.specs.Lists.{sumBy, at, Tabled}
+use Rattle.lists.specs.Below.{allBelow, anyBelow, sumBelow, largestBelow, joinBelow, mapBelow}
 use Rattle.lists.specs.Tests.{split, fails, never-both, and-both, and-left, and-right, or-left, or-right}
 use Rattle.lists.specs.Sums.{sumBy-append}
-use Rattle.lists.specs.Places.{take-next}
+use Rattle.lists.specs.Places.{at-set, take-next}
 
 -- a number below n + 1 is n, or below n
 pub last-or : {i n : ℕ} → i < suc n → (i ≡ n) ⊎ (i < n)
@@ -51,6 +53,10 @@ pub sumBelow-next : (n : ℕ) (f : ℕ → ℕ) → sumBelow (n + 1) f ≡ sumBe
 unfolding sumBelow
 sumBelow-next n f = rw add-one
 
+pub largestBelow-next : (n : ℕ) (f : ℕ → ℕ) → largestBelow (n + 1) f ≡ max (largestBelow n f) (f n)
+unfolding largestBelow
+largestBelow-next n f = rw add-one
+
 pub joinBelow-next : (n : ℕ) (f : ℕ → List ℕ) → joinBelow (n + 1) f ≡ joinBelow n f ++ f n
 unfolding joinBelow
 joinBelow-next n f = rw add-one
@@ -62,6 +68,14 @@ mapBelow-next n f = joinBelow-next n (λ i. f i ∷ [])
 -- along a list
 pub sumBy-take-next : (f : ℕ → ℕ) (l : List ℕ) (k : ℕ) → k < length l → sumBy f (take (k + 1) l) ≡ sumBy f (take k l) + f (at l k)
 sumBy-take-next f l k h = rw (take-next k l h) (omega (arith, sumBy-append f (take k l) (at l k ∷ [])))
+
+-- an entry stored behind those that are right
+pub tabled-next : (f : ℕ → ℕ) (n : ℕ) (l : List ℕ) {x : ℕ} → Tabled n f l → n < length l → x ≡ f n → Tabled (n + 1) f (set l n x)
+tabled-next f n l {x} h b e i g =
+    at-set l n x i b
+    ∙ split (eqb i n)
+    (λ t. let q : i ≡ n = eqb-true i n t in rw (t, q) e)
+    (λ t. let d : i ≡ n → ⊥ = eqb-false i n t in rw t (h i (omega (arith, d))))
 
 -- ---- every number passes
 

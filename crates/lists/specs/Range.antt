@@ -4,14 +4,14 @@ use mathlib.Core.List.{List, [], _∷_, _++_, append-assoc, append-nil}
 use mathlib.Core.Logic.{⊎-elim}
 use mathlib.Core.Path.{_≡_, refl, sym, ap, ap₂, _∙_, fun-ext}
 use Prim.Native.Nat.{ℕ, zero, suc, _+_, _*_, _≤_, _<_, zero-le}
-use native.Mathlib.Nat.{not-suc-le-zero, le-refl, le-of-suc-le-suc, eq-or-lt-of-le, add-zero, add-le-add, mul-comm, mul-one}
+use native.Mathlib.Nat.{not-suc-le-zero, le-refl, le-trans, le-of-suc-le-suc, eq-or-lt-of-le, add-zero, add-le-add, mul-comm, mul-one, le-max-left, le-max-right, max-le}
 use native.Mathlib.Omega.{arith}
 use lib.Dec.{eqb, ltb}
 use lib.ListN.{length, take, drop, length-append, List·getD-append}
 use lib.Seq.{getD-at, take-at, drop-at}
 use borrow.Author.Tests.{eqb-true, eqb-false, ltb-true, ltb-false, lt-ltb, le-ltb}
 use Rattle.lists.specs.Lists.{tally, sumBy, count, _∈_, has, Once, at, Ascending}
-use Rattle.lists.specs.Below.{sumBelow, countBelow, joinBelow, mapBelow, listBelow, range}
+use Rattle.lists.specs.Below.{sumBelow, countBelow, largestBelow, joinBelow, mapBelow, listBelow, range}
 use Rattle.lists.specs.Tests.{split, passes, and-left, and-right}
 use Rattle.lists.specs.Sums.{tally-le, tally-and, sumBy-append, sumBy-add, sumBy-ones}
 use Rattle.lists.specs.Counts.{count-append, sumBy-cong-in, sumBy-single, sumBy-part}
@@ -114,6 +114,20 @@ length-members n l once low =
     sym (sumBy-ones l)
     ∙ sym (sumBy-part (λ x. 1) (range n) l (range-once n) once (λ x m. in-range x n (low x m)))
     ∙ sumBy-range (λ x. tally (has x l)) n
+
+-- ---- the largest: no value is above it, and it is no higher than what no value is above
+
+pub largestBelow-at : (f : ℕ → ℕ) (n : ℕ) {i : ℕ} → i < n → f i ≤ largestBelow n f
+unfolding largestBelow
+largestBelow-at f zero h = absurd (not-suc-le-zero h)
+largestBelow-at f (suc n) h =
+    ⊎-elim (λ e. rw e (le-max-right (largestBelow n f) (f n)))
+    (λ l. le-trans (largestBelow-at f n l) (le-max-left (largestBelow n f) (f n))) (last-or h)
+
+pub largestBelow-le : (f : ℕ → ℕ) (m n : ℕ) → ((i : ℕ) → i < n → f i ≤ m) → largestBelow n f ≤ m
+unfolding largestBelow
+largestBelow-le f m zero h = zero-le
+largestBelow-le f m (suc n) h = max-le (largestBelow-le f m n (λ i l. h i (omega arith))) (h n (omega arith))
 
 -- ---- lists
 

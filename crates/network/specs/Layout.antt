@@ -56,6 +56,10 @@ row t i = rowAt (starts (startsAt t) t) (links (startsAt t) t) i
 abbrev pub degree : List ℕ → ℕ → ℕ
 degree t i = length (row t i)
 
+-- its need
+abbrev pub need : List ℕ → ℕ → ℕ
+need t i = at (needs t) i
+
 -- m, the number of lines: at each bus its neighbours below it, so that a line is counted once, at its higher bus
 unfoldable pub lines : List ℕ → ℕ
 lines t = sumBelow (size t) (λ i. countBelow i (λ j. has j (row t i)))
