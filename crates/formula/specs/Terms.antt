@@ -9,11 +9,11 @@ use lib.ListN.{length}
 use Rattle.lists.specs.Lists.{sumBy}
 use Rattle.lists.specs.Tests.{split}
 use Rattle.lists.specs.Sums.{sumBy-const, sumBy-le}
-use Rattle.lists.specs.Places.{length-part}
 use Rattle.game.specs.Game.{neighbourTerm}
 use Rattle.game.specs.Total.{terms-whole}
-use Rattle.network.specs.Layout.{size, needs, need, degree}
+use Rattle.network.specs.Layout.{size, need, degree}
 use Rattle.network.specs.Holds.{Holds}
+use Rattle.network.specs.Rows.{length-needs}
 use Rattle.formula.specs.Formula.{denominator, ownOf, neighbourOf}
 use Rattle.formula.specs.Denominator.{degrees-divide}
 
@@ -35,12 +35,8 @@ module _ (t : List ℕ) where
   neighbours-most l = omega (arith, sumBy-le neighbour-most l, sumBy-const (denominator t) l)
 
 module _ {t : List ℕ} (w : Holds t) where
-  length-needs : length (needs t) ≡ size t
-  unfolding needs
-  length-needs = let z = length-part 1 (1 + size t) t (omega (arith, w .complete .whole)) in omega arith
-
   pub need-least : (u : ℕ) → u < size t → 0 < need t u
-  need-least u b = w .fair u (omega (arith, length-needs)) .0
+  need-least u b = w .fair u (omega (arith, length-needs t (w .complete))) .0
 
   -- what seeing bus u is worth is L: each neighbour gets its term, and the bus the rest
   pub own-rest : (u : ℕ) → u < size t → ownOf t u + degree t u * neighbourOf t u ≡ denominator t

@@ -72,6 +72,10 @@ row-in t i eh es el = rw (es, el, eh)
 
 -- ---- and how long they are
 
+pub length-needs : (t : List ℕ) → Complete (startsAt t) t → length (needs t) ≡ size t
+unfolding needs
+length-needs t w = let a = length-part 1 (1 + size t) t (omega (arith, w .whole)) in omega arith
+
 module _ (h : ℕ) (t : List ℕ) (w : Complete h t) where
   pub length-starts : length (starts h t) ≡ size t + 1
   unfolding starts

@@ -1,0 +1,95 @@
+// Shares of the buses of a network: of all of them, or of one.
+ghost use mathlib.Core.Path.{_≡_};
+ghost use Prim.Native.Nat.{_≤_, _<_};
+ghost use lib.ListN.{length};
+ghost use Rattle.lists.specs.Lists.{put};
+ghost use Rattle.lists.specs.Below.{mapBelow};
+ghost use Rattle.network.specs.Layout.{size};
+ghost use Rattle.network.specs.Holds.{Holds};
+ghost use Rattle.formula.specs.Formula.{numerator};
+ghost use Rattle.terms.specs.Prepared.{Prepared};
+ghost use Rattle.scorer.specs.Answers.{sharesSays, sharesOutcome, numeratorsAfter, AllFair, shareSays, shareOutcome, OneFair};
+use network::Network;
+pub use network::Refusal;
+use network::rows::entry;
+use network::table::holds;
+use network::table::neighbours;
+use network::table::size;
+use terms::prepare;
+
+// The number that all numerators are over, or why there are none.
+pub enum AllShares {
+    Over(u64),
+    Refused(Refusal),
+}
+
+// A numerator and the number that it is over, or why there is none.
+pub enum OneShare {
+    Is(u64, u64),
+    Refused(Refusal),
+}
+
+// The numerator of a bus: what its neighbours leave it of its own L, which is its own term, and what they give it.
+pub fn numerator(table: &[u16], over: u64, terms: &[u64; Network::BUSES], bus: usize) -> u64
+    requires { ⌜ Holds (now table) × (bus < size (now table)) ⌝ }
+    requires { ⌜ Prepared (now table) over (now terms) ⌝ }
+    ensures { λ r. ⌜ r ≡ numerator (now (table .entry)) bus ⌝ }
+{
+    let row = neighbours(table, bus);
+    let mut sum = over - (row.len() as u64) * terms[bus];
+    let mut k = 0;
+    while k < row.len() {
+        let neighbour = entry(row, k);
+        sum += terms[neighbour];
+        k += 1;
+    }
+    sum
+}
+
+// Stores the numerators of all buses.
+fn store(table: &[u16], over: u64, terms: &[u64; Network::BUSES], numerators: &mut [u64])
+    requires { ⌜ Holds (now table) × (size (now table) ≤ length (now numerators)) ⌝ }
+    requires { ⌜ Prepared (now table) over (now terms) ⌝ }
+    ensures { λ _. ⌜ now (numerators .exit) ≡ put (now (numerators .entry)) 0 (mapBelow (size (now (table .entry))) (numerator (now (table .entry)))) ⌝ }
+{
+    let n = size(table);
+    let mut bus = 0;
+    while bus < n {
+        numerators[bus] = numerator(table, over, terms, bus);
+        bus += 1;
+    }
+}
+
+// The shares of all buses: the numerators are stored, and what they are over is given.
+pub fn shares(table: &[u16], numerators: &mut [u64]) -> AllShares
+    ensures answer { λ r. ⌜ sharesSays r ≡ sharesOutcome (now (table .entry)) (length (now (numerators .entry))) ⌝ }
+    ensures stored { λ _. ⌜ now (numerators .exit) ≡ numeratorsAfter (now (table .entry)) (now (numerators .entry)) ⌝ }
+    ensures fair { λ r. ⌜ AllFair (now (table .entry)) (length (now (numerators .entry))) (sharesSays r) (now (numerators .exit)) ⌝ }
+{
+    if !holds(table) {
+        return AllShares::Refused(Refusal::NoNetwork);
+    }
+    if numerators.len() < size(table) {
+        return AllShares::Refused(Refusal::NumeratorsTooShort);
+    }
+    let mut terms = [0u64; Network::BUSES];
+    let over = prepare(table, &mut terms);
+    store(table, over, &terms, numerators);
+    AllShares::Over(over)
+}
+
+// The share of one bus.
+pub fn share(table: &[u16], bus: usize) -> OneShare
+    ensures answer { λ r. ⌜ shareSays r ≡ shareOutcome (now (table .entry)) bus ⌝ }
+    ensures fair { λ r. ⌜ OneFair (now (table .entry)) bus (shareSays r) ⌝ }
+{
+    if !holds(table) {
+        return OneShare::Refused(Refusal::NoNetwork);
+    }
+    if size(table) <= bus {
+        return OneShare::Refused(Refusal::NoSuchBus);
+    }
+    let mut terms = [0u64; Network::BUSES];
+    let over = prepare(table, &mut terms);
+    OneShare::Is(numerator(table, over, &terms, bus), over)
+}

@@ -1,0 +1,50 @@
+-- How the code comes by the largest degree, the units and the terms. Assumes nothing.
+use mathlib.Core.List.{List}
+use mathlib.Core.Path.{_≡_, sym, _∙_}
+use Prim.Native.Nat.{ℕ, _+_, _-_, _*_, _≤_, _<_}
+use native.Mathlib.Nat.{div-zero, max-eq-left, max-eq-right}
+use native.Mathlib.Omega.{arith}
+use borrow.Author.Tests.{le-leb, lt-leb}
+use lib.ListN.{replicate}
+use Rattle.lists.specs.Lists.{Tabled}
+use Rattle.lists.specs.Below.{largestBelow}
+use Rattle.lists.specs.Loops.{largestBelow-next}
+use Rattle.lists.specs.Places.{at-zeros}
+use Rattle.game.specs.Game.{neighbourTerm}
+use Rattle.network.specs.Layout.{size, degree, need}
+use Rattle.network.specs.Holds.{Holds}
+use Rattle.formula.specs.Formula.{denominator, neighbourOf}
+use Rattle.formula.specs.Denominator.{degree-few, denominator-most}
+use Rattle.formula.specs.Terms.{neighbour-most}
+use Rattle.terms.specs.Prepared.{degrees, unit}
+
+-- a turn's value is larger than those before it, or it is not
+module _ (f : ℕ → ℕ) (i : ℕ) {m k : ℕ} (em : m ≡ largestBelow i f) (ek : k ≡ f i) where
+  pub larger : m < k → k ≡ largestBelow (i + 1) f
+  larger l = sym (largestBelow-next i f ∙ rw (← em, ← ek) (max-eq-right (omega arith)))
+
+  pub no-larger : k ≤ m → m ≡ largestBelow (i + 1) f
+  no-larger l = sym (largestBelow-next i f ∙ rw (← em, ← ek) (max-eq-left l))
+
+-- a bus of degree 0 has unit 0
+pub units-start : (L : ℕ) → Tabled 1 (unit L) (replicate degrees 0)
+unfolding unit
+units-start L i b = let z : i ≡ 0 = omega arith in at-zeros degrees i ∙ rw z (sym (div-zero L))
+
+-- a bus's degree d and need k, as code has them
+module _ {t : List ℕ} (w : Holds t) {bus d k : ℕ} (b : bus < size t) (ed : d ≡ degree t bus) (ek : k ≡ need t bus) where
+  pub degree-read : d < degrees
+  degree-read = omega (arith, degree-few w bus b)
+
+  pub gives-none : d < k → 0 ≡ neighbourOf t bus
+  unfolding neighbourOf neighbourTerm
+  gives-none l = rw (← ed, ← ek, lt-leb k d l)
+
+  -- and the unit u of that degree
+  module _ {u : ℕ} (eu : u ≡ unit (denominator t) d) (l : k ≤ d) where
+    pub gives-some : (d + 1 - k) * u ≡ neighbourOf t bus
+    unfolding neighbourOf neighbourTerm unit
+    gives-some = rw (eu, ← ed, ← ek, le-leb k d l)
+
+    pub some-fits : (d + 1 - k) * u ≤ 5354228880
+    some-fits = omega (arith, gives-some, neighbour-most t bus, denominator-most w)

@@ -1,0 +1,111 @@
+// What shares are made of: the common denominator L, and what each bus gives to each of its neighbours.
+ghost use mathlib.Core.Path.{_≡_};
+ghost use Prim.Native.Nat.{suc, _+_, _≤_, _<_};
+ghost use lib.ListN.{length};
+ghost use Rattle.lists.specs.Lists.{Tabled};
+ghost use Rattle.lists.specs.Below.{mapBelow};
+ghost use Rattle.fraction.specs.Divisors.{lcmAll};
+ghost use Rattle.network.specs.Limits.{maxBuses, maxDegree};
+ghost use Rattle.network.specs.Layout.{size};
+ghost use Rattle.network.specs.Holds.{Holds};
+ghost use Rattle.formula.specs.Formula.{largestDegree, denominator, neighbourOf};
+ghost use Rattle.terms.specs.Prepared.{degrees, unit, Prepared};
+use fraction::lcm;
+use network::Network;
+use network::rows::entry;
+use network::table::needs;
+use network::table::neighbours;
+use network::table::size;
+
+// A bus has 0 lines, or any number up to the limit.
+const DEGREES: usize = Network::LINES_AT_BUS + 1;
+
+fn largest_degree(table: &[u16]) -> usize
+    requires { ⌜ Holds (now table) ⌝ }
+    ensures { λ r. ⌜ r ≡ largestDegree (now (table .entry)) ⌝ }
+{
+    let n = size(table);
+    let mut largest = 0;
+    let mut bus = 0;
+    while bus < n {
+        let degree = neighbours(table, bus).len();
+        if largest < degree {
+            largest = degree;
+        }
+        bus += 1;
+    }
+    largest
+}
+
+// The least common multiple of 1 to m.
+fn multiple_up_to(m: usize) -> u64
+    requires { ⌜ m ≤ 1 + maxDegree ⌝ }
+    ensures { λ r. ⌜ r ≡ lcmAll (mapBelow m suc) ⌝ }
+{
+    let mut multiple = 1;
+    let mut k = 0;
+    while k < m {
+        multiple = lcm((k + 1) as u64, multiple);
+        k += 1;
+    }
+    multiple
+}
+
+// L: what all shares of a network are over.
+pub fn denominator(table: &[u16]) -> u64
+    requires { ⌜ Holds (now table) ⌝ }
+    ensures { λ r. ⌜ r ≡ denominator (now (table .entry)) ⌝ }
+{
+    multiple_up_to(1 + largest_degree(table))
+}
+
+// L over d (d + 1) for each degree d above 0, so that no bus needs a division.
+fn units(over: u64) -> [u64; DEGREES]
+    ensures { λ r. ⌜ Tabled degrees (unit over) r ⌝ }
+{
+    let mut units = [0u64; DEGREES];
+    let mut d = 1;
+    while d < DEGREES {
+        units[d] = over / ((d * (d + 1)) as u64);
+        d += 1;
+    }
+    units
+}
+
+// What a bus gives to each neighbour.
+fn term(table: &[u16], units: &[u64; DEGREES], bus: usize) -> u64
+    requires { ⌜ Holds (now table) × (bus < size (now table)) ⌝ }
+    requires { ⌜ Tabled degrees (unit (denominator (now table))) (now units) ⌝ }
+    ensures { λ r. ⌜ r ≡ neighbourOf (now (table .entry)) bus ⌝ }
+{
+    let d = neighbours(table, bus).len();
+    let k = entry(needs(table), bus);
+    if d < k {
+        return 0;
+    }
+    ((d + 1 - k) as u64) * units[d]
+}
+
+fn fill(table: &[u16], units: &[u64; DEGREES], terms: &mut [u64; Network::BUSES])
+    requires { ⌜ Holds (now table) × Tabled degrees (unit (denominator (now table))) (now units) ⌝ }
+    requires { ⌜ length (now terms) ≡ maxBuses ⌝ }
+    ensures { λ _. ⌜ Tabled (size (now (table .entry))) (neighbourOf (now (table .entry))) (now (terms .exit)) ⌝ }
+{
+    let n = size(table);
+    let mut bus = 0;
+    while bus < n {
+        terms[bus] = term(table, units, bus);
+        bus += 1;
+    }
+}
+
+// Finds L, and fills the terms with what each bus gives to each neighbour.
+pub fn prepare(table: &[u16], terms: &mut [u64; Network::BUSES]) -> u64
+    requires { ⌜ Holds (now table) × (length (now terms) ≡ maxBuses) ⌝ }
+    ensures { λ r. ⌜ Prepared (now (table .entry)) r (now (terms .exit)) ⌝ }
+{
+    let over = denominator(table);
+    let units = units(over);
+    fill(table, &units, terms);
+    over
+}
