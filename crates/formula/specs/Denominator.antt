@@ -1,14 +1,13 @@
 -- The common denominator is the least common multiple that 01 names, d(d+1) divides it for each degree d, and it is never above 5,354,228,880.
 -- Assumes nothing.
 use mathlib.Core.List.{List}
-use mathlib.Core.Path.{_≡_, refl, _∙_}
+use mathlib.Core.Path.{_≡_, refl, subst}
 use Prim.Native.Nat.{ℕ, suc, _+_, _-_, _*_, _≤_, _<_, _∣_}
 use native.Mathlib.Nat.{le-of-dvd}
 use native.Mathlib.Omega.{arith}
-use Rattle.lists.specs.Lists.{_∈_, at}
+use Rattle.lists.specs.Lists.{_∈_}
 use Rattle.lists.specs.Below.{joinBelow, mapBelow}
-use Rattle.lists.specs.Places.{in-at, at-in}
-use Rattle.lists.specs.Range.{largestBelow-at, largestBelow-le, length-mapBelow, mapBelow-at}
+use Rattle.lists.specs.Range.{largestBelow-at, largestBelow-le, in-mapBelow, of-mapBelow}
 use Rattle.fraction.specs.Divisors.{gcdOf, lcmOf, lcmAll}
 use Rattle.fraction.specs.Lcm.{next-product, lcmAll-multiple, lcmAll-least, lcmAll-part}
 use Rattle.network.specs.Limits.{maxDegree}
@@ -19,29 +18,22 @@ use Rattle.formula.specs.Formula.{largestDegree, denominator, CommonDeno
 
 -- ---- the numbers 1, 2, .. up to m
 
-up-to : (m k : ℕ) → 1 ≤ k → k ≤ m → k ∈ mapBelow m suc
-up-to m k a b =
-    let q : suc (k - 1) ≡ k = omega arith in
-    let e : at (mapBelow m suc) (k - 1) ≡ k = mapBelow-at suc m (omega arith) ∙ q in
-    rw e at (in-at (mapBelow m suc) (k - 1) (omega (arith, length-mapBelow m suc)))
+pub up-to : (m k : ℕ) → 1 ≤ k → k ≤ m → k ∈ mapBelow m suc
+up-to m k a b = let q : suc (k - 1) ≡ k = omega arith in subst (λ x. x ∈ mapBelow m suc) q (in-mapBelow suc m (omega arith))
 
-of-up-to : (m k : ℕ) → k ∈ mapBelow m suc → (1 ≤ k) × (k ≤ m)
-of-up-to m k i =
-    let w = at-in k (mapBelow m suc) i in
-    let b = length-mapBelow m suc in
-    let e = mapBelow-at suc m {i = w .0} (omega (arith, w .1)) in
-    (omega (arith, w .2), omega (arith, w .1, w .2))
+pub of-up-to : (m k : ℕ) → k ∈ mapBelow m suc → (1 ≤ k) × (k ≤ m)
+of-up-to m k i = let w = of-mapBelow suc m k i in (omega (arith, w .2), omega (arith, w .1, w .2))
 
 -- the multiple of the largest degree that a bus may have
 top : lcmAll (mapBelow (1 + maxDegree) suc) ≡ 5354228880
 unfolding lcmAll lcmOf gcdOf mapBelow joinBelow
 top = refl
 
--- a smaller one divides it
-pub multiple-most : (m : ℕ) → m ≤ 1 + maxDegree → lcmAll (mapBelow m suc) ≤ 5354228880
-multiple-most m h =
+-- that of fewer numbers divides it
+pub multiple-most : (l : List ℕ) → ((k : ℕ) → k ∈ l → (1 ≤ k) × (k ≤ 1 + maxDegree)) → lcmAll l ≤ 5354228880
+multiple-most l h =
     le-of-dvd (omega arith)
-    (rw top at (lcmAll-part (mapBelow m suc) (mapBelow (1 + maxDegree) suc) (λ k i. let w = of-up-to m k i in up-to (1 + maxDegree) k (w .0) (omega (arith, w .1)))))
+    (rw top at (lcmAll-part l (mapBelow (1 + maxDegree) suc) (λ k i. up-to (1 + maxDegree) k (h k i .0) (h k i .1))))
 
 -- ---- of a table
 
@@ -75,4 +67,4 @@ module _ {t : List ℕ} (w : Holds t) where
 
   pub denominator-most : denominator t ≤ 5354228880
   unfolding denominator
-  denominator-most = multiple-most (1 + largestDegree t) (omega (arith, largest-few))
+  denominator-most = multiple-most _ (λ k i. let w = of-up-to (1 + largestDegree t) k i in (w .0, omega (arith, w .1, largest-few)))

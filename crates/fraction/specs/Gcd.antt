@@ -15,7 +15,8 @@ gcd-zero a = record { left = dvd-refl a; right = dvd-zero a; greatest = λ d p q
 pub gcd-flip : {a b g : ℕ} → IsGcd a b g → IsGcd b a g
 gcd-flip i = record { left = i .right; right = i .left; greatest = λ d p q. i .greatest d q p }
 
-gcd-turn : {a b g : ℕ} → IsGcd b (a % b) g → IsGcd a b g
+-- a turn of Euclid's rule
+pub gcd-turn : {a b g : ℕ} → IsGcd b (a % b) g → IsGcd a b g
 gcd-turn {a} {b} {g} i = record {
   left = dvd-mod-iff g (i .left) .0 (i .right);
   right = i .left;

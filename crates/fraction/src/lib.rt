@@ -69,7 +69,8 @@ pub fn cancel(numerator: u64, denominator: u64) -> Cancelled
     Cancelled::Pair(numerator / g, denominator / g)
 }
 
-// The least common multiple, where it fits. Dividing first, no step exceeds it.
+// The least common multiple, where it fits. A step of Euclid's rule makes a small number quick to fold into a large one;
+// most such pairs share no factor, and then nothing is divided.
 pub fn lcm(a: u64, b: u64) -> u64
     requires { ⌜ lcmOf a b < 2 ^ 64 ⌝ }
     ensures answer { λ r. ⌜ r ≡ lcmOf a b ⌝ }
@@ -78,5 +79,9 @@ pub fn lcm(a: u64, b: u64) -> u64
     if a == 0 {
         return 0;
     }
-    a / gcd(a, b) * b
+    let g = gcd(a, b % a);
+    if g == 1 {
+        return a * b;
+    }
+    a / g * b
 }

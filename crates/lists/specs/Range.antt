@@ -2,7 +2,7 @@
 use mathlib.Core.Bool.{Bool, true, false, cond, _&&_}
 use mathlib.Core.List.{List, [], _∷_, _++_, append-assoc, append-nil}
 use mathlib.Core.Logic.{⊎-elim}
-use mathlib.Core.Path.{_≡_, refl, sym, ap, ap₂, _∙_, fun-ext}
+use mathlib.Core.Path.{_≡_, refl, sym, ap, ap₂, subst, _∙_, fun-ext}
 use Prim.Native.Nat.{ℕ, zero, suc, _+_, _*_, _≤_, _<_, zero-le}
 use native.Mathlib.Nat.{not-suc-le-zero, le-refl, le-trans, le-of-suc-le-suc, eq-or-lt-of-le, add-zero, add-le-add, mul-comm, mul-one, le-max-left, le-max-right, max-le}
 use native.Mathlib.Omega.{arith}
@@ -15,7 +15,7 @@ use Rattle.lists.specs.Below.{sumBelow, countBelow, largestBelow, joinBe
 use Rattle.lists.specs.Tests.{split, passes, and-left, and-right}
 use Rattle.lists.specs.Sums.{tally-le, tally-and, sumBy-append, sumBy-add, sumBy-ones}
 use Rattle.lists.specs.Counts.{count-append, sumBy-cong-in, sumBy-single, sumBy-part}
-use Rattle.lists.specs.Places.{in-at}
+use Rattle.lists.specs.Places.{in-at, at-in}
 use Rattle.lists.specs.Loops.{last-or}
 
 -- ---- sums
@@ -180,6 +180,16 @@ mapBelow-at f zero h = absurd (not-suc-le-zero h)
 mapBelow-at f (suc n) {i} h =
     ⊎-elim (λ e. rw e (getD-at (mapBelow n f) (f n) [] 0 n (length-mapBelow n f)))
     (λ l. List·getD-append (mapBelow n f) (f n ∷ []) 0 i (omega (arith, length-mapBelow n f)) ∙ mapBelow-at f n l) (last-or h)
+
+pub in-mapBelow : (f : ℕ → ℕ) (n : ℕ) {i : ℕ} → i < n → f i ∈ mapBelow n f
+in-mapBelow f n {i} l =
+    subst (λ x. x ∈ mapBelow n f) (mapBelow-at f n l) (in-at (mapBelow n f) i (omega (arith, length-mapBelow n f)))
+
+pub of-mapBelow : (f : ℕ → ℕ) (n x : ℕ) → x ∈ mapBelow n f → (i : ℕ) × (i < n) × (f i ≡ x)
+of-mapBelow f n x m =
+    let w = at-in x (mapBelow n f) m in
+    let l : w .0 < n = omega (arith, w .1, length-mapBelow n f) in
+    (w .0, l, sym (mapBelow-at f n l) ∙ w .2)
 
 -- ---- the numbers that pass: exactly those, each once, ascending
 

@@ -16,7 +16,6 @@ use Rattle.formula.specs.Formula.{denominator, ownOf, neighbourOf, numerator}
 use Rattle.formula.specs.Denominator.{degree-few, denominator-most}
 use Rattle.formula.specs.Terms.{neighbour-most, neighbours-most, own-rest}
 use Rattle.formula.specs.Fair.{neighbour-below}
-use Rattle.terms.specs.Prepared.{Prepared}
 
 -- the own term, and the terms of the first k neighbours
 unfoldable pub summed : List ℕ → ℕ → ℕ → ℕ
@@ -26,47 +25,47 @@ summed t bus k = ownOf t bus + sumBy (neighbourOf t) (take k (row t bus))
 abbrev pub most : ℕ
 most = (2 + maxDegree) * 5354228880
 
--- L, the terms of all buses and the row r of the bus, as code has them
-module _ {t : List ℕ} (w : Holds t) {bus over : ℕ} {terms r : List ℕ} (p : Prepared t over terms) (b : bus < size t) (er : r ≡ row t bus) where
-  rest : ownOf t bus + length r * at terms bus ≡ over
-  rest = rw (p .each bus b, er, p .whole) (own-rest w bus b)
+-- L and the row r of the bus, as code has them
+module _ {t : List ℕ} (w : Holds t) {bus over : ℕ} {r : List ℕ} (b : bus < size t) (eo : over ≡ denominator t) (er : r ≡ row t bus) where
+  -- x is what the bus gives to each neighbour
+  module _ {x : ℕ} (ex : x ≡ neighbourOf t bus) where
+    rest : ownOf t bus + length r * x ≡ over
+    rest = rw (ex, er, eo) (own-rest w bus b)
 
-  pub rest-fits : length r * at terms bus ≤ over
-  rest-fits = omega (arith, rest)
+    pub rest-fits : length r * x ≤ over
+    rest-fits = omega (arith, rest)
 
-  pub over-most : over ≤ 5354228880
-  over-most = omega (arith, p .whole, denominator-most w)
-
-  pub sum-start : over - length r * at terms bus ≡ summed t bus 0
-  unfolding summed
-  sum-start = omega (arith, rest)
+    pub sum-start : over - length r * x ≡ summed t bus 0
+    unfolding summed
+    sum-start = omega (arith, rest)
 
   pub sum-end : {sum k : ℕ} → sum ≡ summed t bus k → length r ≤ k → sum ≡ numerator t bus
   unfolding summed numerator
-  sum-end {k = k} e l = e ∙ ap (λ r. ownOf t bus + sumBy (neighbourOf t) r) (take-all _ _ (rw er at l))
+  sum-end e l = e ∙ ap (λ r. ownOf t bus + sumBy (neighbourOf t) r) (take-all _ _ (rw er at l))
 
   -- neighbour k is bus j
   module _ {k j : ℕ} (l : k < length r) (ej : j ≡ at r k) where
     pub neighbour-in : j < size t
     neighbour-in = neighbour-below w bus b j (rw (ej, er) (in-at (row t bus) k (rw er at l)))
 
-    pub sum-next : {sum : ℕ} → sum ≡ summed t bus k → sum + at terms j ≡ summed t bus (k + 1)
-    unfolding summed
-    sum-next e =
-        let x : at terms j ≡ neighbourOf t (at (row t bus) k) = p .each j neighbour-in ∙ ap (neighbourOf t) (ej ∙ ap (λ r. at r k) er) in
-        omega (arith, e, x, sumBy-take-next (neighbourOf t) (row t bus) k (rw er at l))
+    -- and x what it gives
+    module _ {sum x : ℕ} (e : sum ≡ summed t bus k) (ex : x ≡ neighbourOf t j) where
+      pub sum-next : sum + x ≡ summed t bus (k + 1)
+      unfolding summed
+      sum-next =
+          omega (arith, e, ex, ap (neighbourOf t) (ej ∙ ap (λ r. at r k) er), sumBy-take-next (neighbourOf t) (row t bus) k (rw er at l))
 
-    pub sum-fits : {sum : ℕ} → sum ≡ summed t bus k → sum + at terms j ≤ most
-    unfolding summed
-    sum-fits e =
-        omega (
-          arith,
-          e,
-          p .each j neighbour-in,
-          neighbour-most t j,
-          neighbours-most t (take k (row t bus)),
-          denominator-most w,
-          own-rest w bus b,
-          mul-le-mul {n₁ = length (take k (row t bus))} {m₁ = denominator t} {n₂ = maxDegree} {m₂ = 5354228880}
-              (omega (arith, length-take-le k (row t bus) (omega (arith, ap length er)), ap length er, degree-few w bus b)) (denominator-most w),
-        )
+      pub sum-fits : sum + x ≤ most
+      unfolding summed
+      sum-fits =
+          omega (
+            arith,
+            e,
+            ex,
+            neighbour-most t j,
+            neighbours-most t (take k (row t bus)),
+            denominator-most w,
+            own-rest w bus b,
+            mul-le-mul {n₁ = length (take k (row t bus))} {m₁ = denominator t} {n₂ = maxDegree} {m₂ = 5354228880}
+                (omega (arith, length-take-le k (row t bus) (omega (arith, ap length er)), ap length er, degree-few w bus b)) (denominator-most w),
+          )

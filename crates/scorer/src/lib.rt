@@ -2,12 +2,12 @@
 ghost use mathlib.Core.Path.{_≡_};
 ghost use Prim.Native.Nat.{_≤_, _<_};
 ghost use lib.ListN.{length};
-ghost use Rattle.lists.specs.Lists.{put};
+ghost use Rattle.lists.specs.Lists.{Tabled, put};
 ghost use Rattle.lists.specs.Below.{mapBelow};
 ghost use Rattle.network.specs.Layout.{size};
 ghost use Rattle.network.specs.Holds.{Holds};
-ghost use Rattle.formula.specs.Formula.{numerator};
-ghost use Rattle.terms.specs.Prepared.{Prepared};
+ghost use Rattle.formula.specs.Formula.{denominator, neighbourOf, numerator};
+ghost use Rattle.terms.specs.Unit.{degrees, unit};
 ghost use Rattle.scorer.specs.Answers.{sharesSays, sharesOutcome, numeratorsAfter, AllFair, shareSays, shareOutcome, OneFair};
 use network::Network;
 pub use network::Refusal;
@@ -15,7 +15,11 @@ use network::rows::entry;
 use network::table::holds;
 use network::table::neighbours;
 use network::table::size;
-use terms::prepare;
+use terms::Degrees;
+use terms::denominator;
+use terms::fill;
+use terms::term;
+use terms::units;
 
 // The number that all numerators are over, or why there are none.
 pub enum AllShares {
@@ -29,10 +33,27 @@ pub enum OneShare {
     Refused(Refusal),
 }
 
-// The numerator of a bus: what its neighbours leave it of its own L, which is its own term, and what they give it.
-pub fn numerator(table: &[u16], over: u64, terms: &[u64; Network::BUSES], bus: usize) -> u64
-    requires { ⌜ Holds (now table) × (bus < size (now table)) ⌝ }
-    requires { ⌜ Prepared (now table) over (now terms) ⌝ }
+// The numerator of one bus: what its neighbours leave it of its own L, which is its own term, and what they give it.
+pub fn numerator(table: &[u16], over: u64, units: &[u64; Degrees::ALL], bus: usize) -> u64
+    requires { ⌜ Holds (now table) × (bus < size (now table)) × (over ≡ denominator (now table)) ⌝ }
+    requires { ⌜ Tabled degrees (unit (denominator (now table))) (now units) ⌝ }
+    ensures { λ r. ⌜ r ≡ numerator (now (table .entry)) bus ⌝ }
+{
+    let row = neighbours(table, bus);
+    let mut sum = over - (row.len() as u64) * term(table, units, bus);
+    let mut k = 0;
+    while k < row.len() {
+        let neighbour = entry(row, k);
+        sum += term(table, units, neighbour);
+        k += 1;
+    }
+    sum
+}
+
+// The same from the terms of all buses, so that none is found again for each neighbour.
+fn gathered(table: &[u16], over: u64, terms: &[u64; Network::BUSES], bus: usize) -> u64
+    requires { ⌜ Holds (now table) × (bus < size (now table)) × (over ≡ denominator (now table)) ⌝ }
+    requires { ⌜ Tabled (size (now table)) (neighbourOf (now table)) (now terms) ⌝ }
     ensures { λ r. ⌜ r ≡ numerator (now (table .entry)) bus ⌝ }
 {
     let row = neighbours(table, bus);
@@ -46,18 +67,31 @@ pub fn numerator(table: &[u16], over: u64, terms: &[u64; Network::BUSES], bus: u
     sum
 }
 
-// Stores the numerators of all buses.
 fn store(table: &[u16], over: u64, terms: &[u64; Network::BUSES], numerators: &mut [u64])
-    requires { ⌜ Holds (now table) × (size (now table) ≤ length (now numerators)) ⌝ }
-    requires { ⌜ Prepared (now table) over (now terms) ⌝ }
+    requires { ⌜ Holds (now table) × (size (now table) ≤ length (now numerators)) × (over ≡ denominator (now table)) ⌝ }
+    requires { ⌜ Tabled (size (now table)) (neighbourOf (now table)) (now terms) ⌝ }
     ensures { λ _. ⌜ now (numerators .exit) ≡ put (now (numerators .entry)) 0 (mapBelow (size (now (table .entry))) (numerator (now (table .entry)))) ⌝ }
 {
     let n = size(table);
     let mut bus = 0;
     while bus < n {
-        numerators[bus] = numerator(table, over, terms, bus);
+        numerators[bus] = gathered(table, over, terms, bus);
         bus += 1;
     }
+}
+
+// Stores the numerators of all buses, and gives L.
+pub fn score(table: &[u16], numerators: &mut [u64]) -> u64
+    requires { ⌜ Holds (now table) × (size (now table) ≤ length (now numerators)) ⌝ }
+    ensures { λ r. ⌜ r ≡ denominator (now (table .entry)) ⌝ }
+    ensures { λ _. ⌜ now (numerators .exit) ≡ put (now (numerators .entry)) 0 (mapBelow (size (now (table .entry))) (numerator (now (table .entry)))) ⌝ }
+{
+    let over = denominator(table);
+    let units = units(over);
+    let mut terms = [0u64; Network::BUSES];
+    fill(table, &units, &mut terms);
+    store(table, over, &terms, numerators);
+    over
 }
 
 // The shares of all buses: the numerators are stored, and what they are over is given.
@@ -72,13 +106,10 @@ pub fn shares(table: &[u16], numerators: &mut [u64]) -> AllShares
     if numerators.len() < size(table) {
         return AllShares::Refused(Refusal::NumeratorsTooShort);
     }
-    let mut terms = [0u64; Network::BUSES];
-    let over = prepare(table, &mut terms);
-    store(table, over, &terms, numerators);
-    AllShares::Over(over)
+    AllShares::Over(score(table, numerators))
 }
 
-// The share of one bus.
+// The share of one bus: its numerator, and what it is over.
 pub fn share(table: &[u16], bus: usize) -> OneShare
     ensures answer { λ r. ⌜ shareSays r ≡ shareOutcome (now (table .entry)) bus ⌝ }
     ensures fair { λ r. ⌜ OneFair (now (table .entry)) bus (shareSays r) ⌝ }
@@ -89,7 +120,7 @@ pub fn share(table: &[u16], bus: usize) -> OneShare
     if size(table) <= bus {
         return OneShare::Refused(Refusal::NoSuchBus);
     }
-    let mut terms = [0u64; Network::BUSES];
-    let over = prepare(table, &mut terms);
-    OneShare::Is(numerator(table, over, &terms, bus), over)
+    let over = denominator(table);
+    let units = units(over);
+    OneShare::Is(numerator(table, over, &units, bus), over)
 }

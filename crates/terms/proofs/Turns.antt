@@ -16,7 +16,7 @@ use Rattle.network.specs.Holds.{Holds}
 use Rattle.formula.specs.Formula.{denominator, neighbourOf}
 use Rattle.formula.specs.Denominator.{degree-few, denominator-most}
 use Rattle.formula.specs.Terms.{neighbour-most}
-use Rattle.terms.specs.Prepared.{degrees, unit}
+use Rattle.terms.specs.Unit.{degrees, unit}
 
 -- a turn's value is larger than those before it, or it is not
 module _ (f : ℕ → ℕ) (i : ℕ) {m k : ℕ} (em : m ≡ largestBelow i f) (ek : k ≡ f i) where

@@ -1,1 +1,3 @@
-pub mod Prepared
+-- Units: definitions, and computed examples.
+pub mod Unit
+pub mod Examples

@@ -9,7 +9,7 @@ ghost use Rattle.network.specs.Limits.{maxBuses, maxDegree};
 ghost use Rattle.network.specs.Layout.{size};
 ghost use Rattle.network.specs.Holds.{Holds};
 ghost use Rattle.formula.specs.Formula.{largestDegree, denominator, neighbourOf};
-ghost use Rattle.terms.specs.Prepared.{degrees, unit, Prepared};
+ghost use Rattle.terms.specs.Unit.{degrees, unit};
 use fraction::lcm;
 use network::Network;
 use network::rows::entry;
@@ -17,8 +17,12 @@ use network::table::needs;
 use network::table::neighbours;
 use network::table::size;
 
-// A bus has 0 lines, or any number up to the limit.
-const DEGREES: usize = Network::LINES_AT_BUS + 1;
+// Degrees that a bus may have: 0 lines, or any number up to the limit.
+pub struct Degrees;
+
+impl Degrees {
+    pub const ALL: usize = Network::LINES_AT_BUS + 1;
+}
 
 fn largest_degree(table: &[u16]) -> usize
     requires { ⌜ Holds (now table) ⌝ }
@@ -37,13 +41,13 @@ fn largest_degree(table: &[u16]) -> usize
     largest
 }
 
-// The least common multiple of 1 to m.
+// The least common multiple of 1 to m. The upper half is enough, since each number up to m / 2 divides its double.
 fn multiple_up_to(m: usize) -> u64
     requires { ⌜ m ≤ 1 + maxDegree ⌝ }
     ensures { λ r. ⌜ r ≡ lcmAll (mapBelow m suc) ⌝ }
 {
     let mut multiple = 1;
-    let mut k = 0;
+    let mut k = m / 2;
     while k < m {
         multiple = lcm((k + 1) as u64, multiple);
         k += 1;
@@ -60,12 +64,12 @@ pub fn denominator(table: &[u16]) -> u64
 }
 
 // L over d (d + 1) for each degree d above 0, so that no bus needs a division.
-fn units(over: u64) -> [u64; DEGREES]
+pub fn units(over: u64) -> [u64; Degrees::ALL]
     ensures { λ r. ⌜ Tabled degrees (unit over) r ⌝ }
 {
-    let mut units = [0u64; DEGREES];
+    let mut units = [0u64; Degrees::ALL];
     let mut d = 1;
-    while d < DEGREES {
+    while d < Degrees::ALL {
         units[d] = over / ((d * (d + 1)) as u64);
         d += 1;
     }
@@ -73,7 +77,7 @@ fn units(over: u64) -> [u64; DEGREES]
 }
 
 // What a bus gives to each neighbour.
-fn term(table: &[u16], units: &[u64; DEGREES], bus: usize) -> u64
+pub fn term(table: &[u16], units: &[u64; Degrees::ALL], bus: usize) -> u64
     requires { ⌜ Holds (now table) × (bus < size (now table)) ⌝ }
     requires { ⌜ Tabled degrees (unit (denominator (now table))) (now units) ⌝ }
     ensures { λ r. ⌜ r ≡ neighbourOf (now (table .entry)) bus ⌝ }
@@ -86,7 +90,8 @@ fn term(table: &[u16], units: &[u64; DEGREES], bus: usize) -> u64
     ((d + 1 - k) as u64) * units[d]
 }
 
-fn fill(table: &[u16], units: &[u64; DEGREES], terms: &mut [u64; Network::BUSES])
+// Fills the terms with what each bus gives to each neighbour.
+pub fn fill(table: &[u16], units: &[u64; Degrees::ALL], terms: &mut [u64; Network::BUSES])
     requires { ⌜ Holds (now table) × Tabled degrees (unit (denominator (now table))) (now units) ⌝ }
     requires { ⌜ length (now terms) ≡ maxBuses ⌝ }
     ensures { λ _. ⌜ Tabled (size (now (table .entry))) (neighbourOf (now (table .entry))) (now (terms .exit)) ⌝ }
@@ -97,15 +102,4 @@ fn fill(table: &[u16], units: &[u64; DEGREES], terms: &mut [u64; Network::BUSES]
         terms[bus] = term(table, units, bus);
         bus += 1;
     }
-}
-
-// Finds L, and fills the terms with what each bus gives to each neighbour.
-pub fn prepare(table: &[u16], terms: &mut [u64; Network::BUSES]) -> u64
-    requires { ⌜ Holds (now table) × (length (now terms) ≡ maxBuses) ⌝ }
-    ensures { λ r. ⌜ Prepared (now (table .entry)) r (now (terms .exit)) ⌝ }
-{
-    let over = denominator(table);
-    let units = units(over);
-    fill(table, &units, terms);
-    over
 }

@@ -2,7 +2,7 @@
 use borrow.Author.Needs.{needs}
 use native.Mathlib.Omega.{arith}
 use mathlib.Core.Bool.{true}
-use mathlib.Core.Path.{_≡_, refl, sym, ap₂, _∙_}
+use mathlib.Core.Path.{_≡_, sym, ap₂, _∙_}
 use Rattle.lists.specs.Tests.{passed, failed}
 use Rattle.refusals.specs.Outcomes.{gives}
 use Rattle.network.specs.Holds.{holds}
@@ -25,20 +25,24 @@ size-requires c κs = let z = holds-facts _ (held c) .complete in omega arith
 returns-2 : tie.Need-returns-2
 returns-2 c = share-promised _ _ (sym (no-bus _ _ _ (held (c .before .before)) (c .before .size .ensures .0) (c .if2 .taken)))
 
-prepare-requires : tie.Need-prepare-requires
-prepare-requires c κs = (holds-facts _ (held (c .before .before .before)), refl)
+returns-3 : tie.Need-returns-3
+returns-3 c =
+    let p = c .before .before .before in
+    let e = p .before in
+    share-promised _ _
+    (ap₂ (λ x L. gives (x, L)) (c .numerator .ensures) (p .denominator .ensures)
+    ∙ sym (given _ _ _ (held (e .before .before)) (e .before .size .ensures .0) (e .if2 .left)))
+
+denominator-requires : tie.Need-denominator-requires
+denominator-requires c κs = holds-facts _ (held (c .before .before))
 
 numerator-requires : tie.Need-numerator-requires
 numerator-requires c κs =
-    let e = c .before .before .before in
-    ((holds-facts _ (held (e .before .before)), omega (arith, e .before .size .ensures .0, e .if2 .left)), c .before .prepare .ensures)
-
-returns-3 : tie.Need-returns-3
-returns-3 c =
-    let e = c .before .before .before .before in
-    share-promised _ _
-    (ap₂ (λ x L. gives (x, L)) (c .numerator .ensures) (c .before .before .prepare .ensures .whole)
-    ∙ sym (given _ _ _ (held (e .before .before)) (e .before .size .ensures .0) (e .if2 .left)))
+    let p = c .before .before in
+    let e = p .before in (
+      (holds-facts _ (held (e .before .before)), omega (arith, e .before .size .ensures .0, e .if2 .left), p .denominator .ensures),
+      rw (← p .denominator .ensures) (c .before .units .ensures),
+    )
 
 pub share-spec : {M : Type 1} → statement M
 share-spec =
@@ -48,6 +52,7 @@ share-spec =
     returns
     size-requires
     returns-2
-    prepare-requires
+    denominator-requires
+    (λ c κs. search needs)
     numerator-requires
     returns-3)

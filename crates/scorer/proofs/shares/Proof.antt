@@ -2,7 +2,7 @@
 use borrow.Author.Needs.{needs}
 use native.Mathlib.Omega.{arith}
 use mathlib.Core.Bool.{true}
-use mathlib.Core.Path.{_≡_, refl}
+use mathlib.Core.Path.{_≡_}
 use Rattle.lists.specs.Tests.{passed, failed}
 use Rattle.network.specs.Holds.{holds}
 use Rattle.network.specs.Facts.{holds-facts}
@@ -23,19 +23,15 @@ size-requires c κs = let z = holds-facts _ (held c) .complete in omega arith
 returns-2 : tie.Need-returns-2
 returns-2 c = few-lent _ _ (held (c .before .before)) (c .before .size .ensures .0) (c .if2 .taken)
 
-prepare-requires : tie.Need-prepare-requires
-prepare-requires c κs = (holds-facts _ (held (c .before .before .before)), refl)
-
-store-requires : tie.Need-store-requires
-store-requires c κs =
-    let e = c .before .before .before .before in
-    ((holds-facts _ (held (e .before .before)), omega (arith, e .before .size .ensures .0, e .if2 .left)), c .before .before .prepare .ensures)
-
 returns-3 : tie.Need-returns-3
 returns-3 c =
-    let p = c .before .before .before .before .before in
+    let p = c .before .before in
     let e = p .before .before in
-    stored _ _ (held (e .before .before)) (e .before .size .ensures .0) (e .if2 .left) (p .prepare .ensures .whole) (c .before .before .store .ensures)
+    stored _ _ (held (e .before .before)) (e .before .size .ensures .0) (e .if2 .left) (p .score .ensures .0) (p .score .ensures .1)
+
+score-requires : tie.Need-score-requires
+score-requires c κs =
+    let e = c .before in (holds-facts _ (held (e .before .before)), omega (arith, e .before .size .ensures .0, e .if2 .left))
 
 pub shares-spec : {M : Type 1} → statement M
 shares-spec =
@@ -45,7 +41,6 @@ shares-spec =
     returns
     size-requires
     returns-2
-    prepare-requires
-    store-requires
+    score-requires
     (λ c. search needs)
     returns-3)

@@ -41,10 +41,10 @@ loop-holds : tie.Need-loop-holds Inv-loop μ-loop
 unfolding mapBelow joinBelow
 loop-holds c = (search needs, sym (put-none _ _))
 
-numerator-requires : tie.Need-numerator-requires Inv-loop μ-loop
-numerator-requires c κs =
+gathered-requires : tie.Need-gathered-requires Inv-loop μ-loop
+gathered-requires c κs =
     let s = start (c .before) in
-    ((s .pre .0 .0, omega (arith, c .before .before .size .ensures .0)), s .pre .1)
+    ((s .pre .0 .0, omega (arith, c .before .before .size .ensures .0), s .pre .0 .2), s .pre .1)
 
 slice-write-numerators : tie.Need-slice-write-numerators Inv-loop μ-loop
 slice-write-numerators c =
@@ -57,7 +57,7 @@ loop-again c =
     let t = start v .args .table .now in (
       search needs,
       stored-entry _ _ _ (v .loop .inv .1) (next v) _ (omega (arith, v .before .size .ensures .0, start v .pre .0 .1))
-          ∙ ap (put _ _) (ap (λ y. mapBelow (v .loop .bus) (numerator t) ++ (y ∷ [])) (c .numerator .ensures) ∙ sym (mapBelow-next (v .loop .bus) (numerator t))),
+          ∙ ap (put _ _) (ap (λ y. mapBelow (v .loop .bus) (numerator t) ++ (y ∷ [])) (c .gathered .ensures) ∙ sym (mapBelow-next (v .loop .bus) (numerator t))),
     )
 
 same-length : tie.Need-same-length Inv-loop μ-loop
@@ -78,7 +78,7 @@ store-spec =
     μ-loop
     size-requires
     loop-holds
-    numerator-requires
+    gathered-requires
     (λ c. search needs)
     slice-write-numerators
     (λ c. search needs)

@@ -7,7 +7,7 @@ use Rattle.lists.specs.Lists.{at}
 use Rattle.network.specs.Layout.{degree, need}
 use Rattle.network.specs.Rows.{length-needs}
 use Rattle.formula.specs.Formula.{denominator}
-use Rattle.terms.specs.Prepared.{unit}
+use Rattle.terms.specs.Unit.{unit}
 use Rattle.terms.proofs.Turns.{degree-read, gives-none, gives-some, some-fits}
 use Rattle.terms.proofs.term.Statement.{statement}
 use Rattle.terms.proofs.term.Tie as tie

@@ -7,7 +7,7 @@ use native.Mathlib.Nat.{mul-le-mul, mul-pos}
 use lib.ListN.{length, length-set}
 use Rattle.lists.specs.Lists.{Tabled}
 use Rattle.lists.specs.Loops.{by-end, tabled-next}
-use Rattle.terms.specs.Prepared.{degrees, unit}
+use Rattle.terms.specs.Unit.{degrees, unit}
 use Rattle.terms.proofs.Turns.{units-start}
 use Rattle.terms.proofs.units.Statement.{statement}
 use Rattle.terms.proofs.units.Tie as tie
