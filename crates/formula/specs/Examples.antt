@@ -20,7 +20,7 @@ pair : List ℕ
 pair = 2 ∷ 1 ∷ 1 ∷ 0 ∷ 1 ∷ 2 ∷ 1 ∷ 0 ∷ []
 
 -- 01's Path, with need k at bus 1
-path : ℕ → List ℕ
+unfoldable pub path : ℕ → List ℕ
 path k = 3 ∷ 1 ∷ k ∷ 1 ∷ 0 ∷ 1 ∷ 3 ∷ 4 ∷ 1 ∷ 0 ∷ 2 ∷ 1 ∷ []
 
 -- three buses, a line between any two, needs k

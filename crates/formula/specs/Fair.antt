@@ -34,10 +34,10 @@ module _ {t : List ℕ} (w : Holds t) where
   game-on : GameOn (range (size t)) (gameOf t)
   game-on = record {
     once = range-once (size t);
+    watch-other = λ u i. has-none u (row t u) (fails _ (λ e. tidy-others (tidy u (of-range u (size t) i)) (has-in u (row t u) e)));
     needs = λ u i. need-least w u (of-range u (size t) i);
     watch-once = λ u i. tidy-once (tidy u (of-range u (size t) i));
     watch-inside = λ u i v m. in-range v (size t) (neighbour-below u (of-range u (size t) i) v m);
-    watch-other = λ u i. has-none u (row t u) (fails _ (λ e. tidy-others (tidy u (of-range u (size t) i)) (has-in u (row t u) e)));
   }
 
   common : Common (range (size t)) (gameOf t) (denominator t)

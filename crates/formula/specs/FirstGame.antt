@@ -34,11 +34,18 @@ module _ {t : List ℕ} (w : Holds t) (ones : (u : ℕ) → u < size t → need 
   has-degree : (v u : ℕ) → v < size t → u < size t → u ∈ row t v → 0 < degree t u
   has-degree v u b c m = in-length v (row t u) (has-in v (row t u) (two-way w u v c b ∙ in-has u (row t v) m))
 
+  own-part : (v : ℕ) → v < size t → ownOf t v ≡ denominator t / (1 + degree t v)
+  unfolding ownOf
+  own-part v b = rw (ones v b) (own-one (degree t v) (denominator t))
+
+  neighbour-part : (v u : ℕ) → v < size t → u ∈ row t v → neighbourOf t u ≡ denominator t / (1 + degree t u)
+  unfolding neighbourOf
+  neighbour-part v u b m =
+      let c = neighbour-below w v b u m in
+      let p = has-degree v u b c m in
+      rw (ones u c) (neighbour-one (degree t u) (denominator t) p (degrees-divide t u c p))
+
   -- a bus without neighbours included
   pub first-game : (v : ℕ) → v < size t → numerator t v ≡ sumBy (λ u. denominator t / (1 + degree t u)) (v ∷ row t v)
-  unfolding numerator ownOf neighbourOf
-  first-game v b =
-      ap₂ _+_ (rw (ones v b) (own-one (degree t v) (denominator t)))
-      (sumBy-cong-in (row t v) (λ u m.
-      let c = neighbour-below w v b u m in
-      rw (ones u c) (neighbour-one (degree t u) (denominator t) (has-degree v u b c m) (degrees-divide t u c (has-degree v u b c m)))))
+  unfolding numerator
+  first-game v b = ap₂ _+_ (own-part v b) (sumBy-cong-in (row t v) (λ u m. neighbour-part v u b m))

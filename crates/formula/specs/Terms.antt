@@ -26,14 +26,6 @@ term-most k (suc d) L =
     (λ e. rw e (le-trans (mul-le-mul-right {m = suc d + 1 - k} {n = D} (L / D) (omega arith)) (mul-div-le L D)))
     (λ e. rw e zero-le)
 
-module _ (t : List ℕ) where
-  pub neighbour-most : (u : ℕ) → neighbourOf t u ≤ denominator t
-  unfolding neighbourOf
-  neighbour-most u = term-most (need t u) (degree t u) (denominator t)
-
-  pub neighbours-most : (l : List ℕ) → sumBy (neighbourOf t) l ≤ length l * denominator t
-  neighbours-most l = omega (arith, sumBy-le neighbour-most l, sumBy-const (denominator t) l)
-
 module _ {t : List ℕ} (w : Holds t) where
   pub need-least : (u : ℕ) → u < size t → 0 < need t u
   need-least u b = w .fair u (omega (arith, length-needs t (w .complete))) .0
@@ -42,3 +34,11 @@ module _ {t : List ℕ} (w : Holds t) where
   pub own-rest : (u : ℕ) → u < size t → ownOf t u + degree t u * neighbourOf t u ≡ denominator t
   unfolding ownOf neighbourOf
   own-rest u b = terms-whole (need t u) (degree t u) (denominator t) (need-least u b) (degrees-divide t u b)
+
+module _ (t : List ℕ) where
+  pub neighbour-most : (u : ℕ) → neighbourOf t u ≤ denominator t
+  unfolding neighbourOf
+  neighbour-most u = term-most (need t u) (degree t u) (denominator t)
+
+  pub neighbours-most : (l : List ℕ) → sumBy (neighbourOf t) l ≤ length l * denominator t
+  neighbours-most l = omega (arith, sumBy-le neighbour-most l, sumBy-const (denominator t) l)

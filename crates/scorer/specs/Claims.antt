@@ -8,7 +8,7 @@ use Rattle.lists.specs.Lists.{at}
 use Rattle.lists.specs.Below.{mapBelow}
 use Rattle.lists.specs.Places.{at-append}
 use Rattle.lists.specs.Range.{sumBelow-same, length-mapBelow, mapBelow-at, mapBelow-same}
-use Rattle.refusals.specs.Outcomes.{Outcome, gives, outcome, valuesOr}
+use Rattle.refusals.specs.Outcomes.{Outcome, gives, outcome}
 use Rattle.network.specs.Layout.{size}
 use Rattle.network.specs.Holds.{Holds}
 use Rattle.network.specs.Facts.{holds-test}
@@ -29,9 +29,9 @@ module _ (t x : List ℕ) (w : Holds t) (l : size t ≤ length x) where
   entry-is : (v : ℕ) → v < size t → at (numeratorsAfter t x) v ≡ numerator t v
   unfolding storedNumerators
   entry-is v b =
-      ap (λ o. at (valuesOr x o) v) (taken (storedNumerators t x))
-      ∙ at-append (mapBelow (size t) (numerator t)) (drop (size t) x) v (omega (arith, length-mapBelow (size t) (numerator t)))
-      ∙ mapBelow-at (numerator t) (size t) b
+      rw (taken (storedNumerators t x))
+      (at-append (mapBelow (size t) (numerator t)) _ v (omega (arith, length-mapBelow (size t) (numerator t)))
+      ∙ mapBelow-at (numerator t) (size t) b)
 
   -- Share gives the entry that Shares stores, and the same L
   pub same-share : (v : ℕ) → v < size t → (sharesOutcome t (length x) ≡ gives (denominator t)) × (shareOutcome t v ≡ gives (at (numeratorsAfter t x) v, denominator t))

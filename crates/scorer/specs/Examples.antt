@@ -10,12 +10,9 @@ use Rattle.fraction.specs.Divisors.{gcdOf, lcmOf, lcmAll}
 use Rattle.game.specs.Game.{ownTerm, neighbourTerm}
 use Rattle.network.specs.Layout.{rowAt, needs, starts, links, row}
 use Rattle.network.specs.Holds.{within, complete, fairNeeds, neverFall, shortRows, tidy, tidyRow, tidyRows, soundRows, mirrored, twoWay, holds}
+use Rattle.formula.specs.Examples.{path}
 use Rattle.formula.specs.Formula.{largestDegree, denominator, ownOf, neighbourOf, numerator}
 use Rattle.scorer.specs.Answers.{sharesOutcome, storedNumerators, numeratorsAfter, shareOutcome}
-
--- 01's Path, with need k at bus 1
-path : ℕ → List ℕ
-path k = 3 ∷ 1 ∷ k ∷ 1 ∷ 0 ∷ 1 ∷ 3 ∷ 4 ∷ 1 ∷ 0 ∷ 2 ∷ 1 ∷ []
 
 -- a table, entries lent, the answer of Shares, and the entries after it
 record Case : Type 0 where

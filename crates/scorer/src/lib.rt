@@ -106,7 +106,8 @@ pub fn shares(table: &[u16], numerators: &mut [u64]) -> AllShares
     if numerators.len() < size(table) {
         return AllShares::Refused(Refusal::NumeratorsTooShort);
     }
-    AllShares::Over(score(table, numerators))
+    let over = score(table, numerators);
+    AllShares::Over(over)
 }
 
 // The share of one bus: its numerator, and what it is over.

@@ -1,12 +1,12 @@
 -- Units and terms, computed. Assumes nothing.
-use mathlib.Core.List.{List, [], _∷_}
+use mathlib.Core.List.{[], _∷_}
 use mathlib.Core.Path.{_≡_, refl}
-use Prim.Native.Nat.{ℕ}
 use Rattle.lists.specs.Lists.{at}
 use Rattle.lists.specs.Below.{largestBelow, joinBelow, mapBelow}
 use Rattle.fraction.specs.Divisors.{gcdOf, lcmOf, lcmAll}
 use Rattle.game.specs.Game.{neighbourTerm}
 use Rattle.network.specs.Layout.{rowAt, needs, starts, links, row}
+use Rattle.formula.specs.Examples.{path}
 use Rattle.formula.specs.Formula.{largestDegree, denominator, neighbourOf}
 use Rattle.terms.specs.Unit.{unit}
 
@@ -14,10 +14,6 @@ use Rattle.terms.specs.Unit.{unit}
 units : mapBelow 4 (unit 12) ≡ 0 ∷ 6 ∷ 2 ∷ 1 ∷ []
 unfolding unit mapBelow joinBelow
 units = refl
-
--- 01's Path, with need k at bus 1
-path : ℕ → List ℕ
-path k = 3 ∷ 1 ∷ k ∷ 1 ∷ 0 ∷ 1 ∷ 3 ∷ 4 ∷ 1 ∷ 0 ∷ 2 ∷ 1 ∷ []
 
 -- over 6: bus 0 gives 3 to bus 1, and bus 1 gives 2 to each end if it needs 1, 1 if it needs 2, and nothing if it needs 3
 given : mapBelow 3 (neighbourOf (path 1)) ≡ 3 ∷ 2 ∷ 3 ∷ []

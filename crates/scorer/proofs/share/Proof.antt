@@ -3,6 +3,7 @@ use borrow.Author.Needs.{needs}
 use native.Mathlib.Omega.{arith}
 use mathlib.Core.Bool.{true}
 use mathlib.Core.Path.{_≡_, sym, ap₂, _∙_}
+use Prim.Native.Nat.{_≤_}
 use Rattle.lists.specs.Tests.{passed, failed}
 use Rattle.refusals.specs.Outcomes.{gives}
 use Rattle.network.specs.Holds.{holds}
@@ -23,7 +24,9 @@ size-requires : tie.Need-size-requires
 size-requires c κs = let z = holds-facts _ (held c) .complete in omega arith
 
 returns-2 : tie.Need-returns-2
-returns-2 c = share-promised _ _ (sym (no-bus _ _ _ (held (c .before .before)) (c .before .size .ensures .0) (c .if2 .taken)))
+returns-2 c =
+    let l : c .before .size .result ≤ c .before .before .before .before .before .args .bus = omega (arith, c .if2 .taken) in
+    share-promised _ _ (sym (no-bus _ _ _ (held (c .before .before)) (c .before .size .ensures .0) l))
 
 returns-3 : tie.Need-returns-3
 returns-3 c =

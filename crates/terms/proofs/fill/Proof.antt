@@ -32,14 +32,6 @@ module _ (c : tie.In-loop Inv-loop μ-loop) where
   few : c .before .loop .bus < maxBuses
   few = omega (arith, inside, c .before .before .before .before .pre .0 .0 .complete .most)
 
-term-requires : tie.Need-term-requires Inv-loop μ-loop
-term-requires c κs =
-    let s = c .before .before .before .before in
-    ((s .pre .0 .0, inside c), s .pre .0 .1)
-
-element-write-terms : tie.Need-element-write-terms Inv-loop μ-loop
-element-write-terms c = few (c .before)
-
 loop-again : tie.Need-loop-again Inv-loop μ-loop
 loop-again c =
     let v = c .before .before in (
@@ -47,6 +39,14 @@ loop-again c =
       length-set (v .loop .terms) (v .loop .bus) _ ∙ v .loop .inv .1,
       tabled-next (neighbourOf _) _ _ (v .loop .inv .2) (omega (arith, few (c .before), v .loop .inv .1)) (c .term .ensures),
     )
+
+term-requires : tie.Need-term-requires Inv-loop μ-loop
+term-requires c κs =
+    let s = c .before .before .before .before in
+    ((s .pre .0 .0, omega (arith, inside c)), s .pre .0 .1)
+
+element-write-terms : tie.Need-element-write-terms Inv-loop μ-loop
+element-write-terms c = few (c .before)
 
 returns : tie.Need-returns Inv-loop μ-loop
 returns c =

@@ -17,14 +17,14 @@ abbrev μ-loop : tie.MeasureT-loop
 loop-holds : tie.Need-loop-holds Inv-loop μ-loop
 loop-holds c = (search needs, omega arith, upper-start (c .args .m))
 
+loop-again : tie.Need-loop-again Inv-loop μ-loop
+loop-again c = let v = c .before .before in (omega arith, search needs, c .lcm .ensures .0 ∙ upper-next _ (v .loop .inv .0) (v .loop .inv .2))
+
 lcm-requires : tie.Need-lcm-requires Inv-loop μ-loop
 lcm-requires c κs =
     let m = c .before .before .args .m in
     let v = c .before .loop in
     omega (arith, upper-next m (v .inv .0) (v .inv .2), upper-most m (v .k + 1 - m / 2) (omega (arith, v .inv .0, c .loop-test .taken, c .before .before .pre)))
-
-loop-again : tie.Need-loop-again Inv-loop μ-loop
-loop-again c = let v = c .before .before in (omega arith, search needs, c .lcm .ensures .0 ∙ upper-next _ (v .loop .inv .0) (v .loop .inv .2))
 
 returns : tie.Need-returns Inv-loop μ-loop
 returns c =

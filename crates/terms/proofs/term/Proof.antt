@@ -43,11 +43,11 @@ mul-result c = let p = c .before in omega (arith, degree-read (start p .pre .0 .
 element-copy-out-result : tie.Need-element-copy-out-result
 element-copy-out-result c = let p = c .before in degree-read (start p .pre .0 .0) (start p .pre .0 .1) (degree-is p) (need-is p)
 
-mul-result-2 : tie.Need-mul-result-2
-mul-result-2 c = let p = c .before .before in omega (arith, some-fits (start p .pre .0 .0) (start p .pre .0 .1) (degree-is p) (need-is p) (unit-is p) (c .before .if1 .left))
-
 returns-2 : tie.Need-returns-2
 returns-2 c = let p = c .before .before in gives-some (start p .pre .0 .0) (start p .pre .0 .1) (degree-is p) (need-is p) (unit-is p) (c .before .if1 .left)
+
+mul-result-2 : tie.Need-mul-result-2
+mul-result-2 c = let p = c .before .before in omega (arith, some-fits (start p .pre .0 .0) (start p .pre .0 .1) (degree-is p) (need-is p) (unit-is p) (c .before .if1 .left))
 
 pub term-spec : {M : Type 1} → statement M
 term-spec =
