@@ -6,7 +6,7 @@ use mathlib.Core.Path.{_≡_, sym, ap, subst, _∙_}
 use Prim.Native.Nat.{ℕ, _*_, _<_}
 use native.Mathlib.Nat.{one-mul, mul-comm}
 use native.Mathlib.Omega.{arith}
-use Rattle.lists.specs.Lists.{sumBy, _∈_, has}
+use Rattle.lists.specs.Lists.{sumBy, count, _∈_, has}
 use Rattle.lists.specs.Below.{sumBelow, range}
 use Rattle.lists.specs.Tests.{fails}
 use Rattle.lists.specs.Sums.{sumBy-cong, sumBy-ones}
@@ -31,13 +31,17 @@ module _ {t : List ℕ} (w : Holds t) where
   pub neighbour-below : (u : ℕ) → u < size t → (v : ℕ) → v ∈ row t u → v < size t
   neighbour-below u b = tidy-below (tidy u b)
 
+  -- and never the bus itself
+  not-own : (u : ℕ) → u < size t → count u (gameOf t .watch u) ≡ 0
+  not-own u b = has-none u (row t u) (fails _ (λ e. tidy-others (tidy u b) (has-in u (row t u) e)))
+
   game-on : GameOn (range (size t)) (gameOf t)
   game-on = record {
     once = range-once (size t);
-    watch-other = λ u i. has-none u (row t u) (fails _ (λ e. tidy-others (tidy u (of-range u (size t) i)) (has-in u (row t u) e)));
     needs = λ u i. need-least w u (of-range u (size t) i);
     watch-once = λ u i. tidy-once (tidy u (of-range u (size t) i));
     watch-inside = λ u i v m. in-range v (size t) (neighbour-below u (of-range u (size t) i) v m);
+    watch-other = λ u i. not-own u (of-range u (size t) i);
   }
 
   common : Common (range (size t)) (gameOf t) (denominator t)

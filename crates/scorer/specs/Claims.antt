@@ -1,9 +1,9 @@
 -- What is answered of a network is fair, Share gives the entry that Shares stores, and what follows a table never matters. Assumes nothing.
-use mathlib.Core.List.{List, _++_}
+use mathlib.Core.List.{List}
 use mathlib.Core.Path.{_≡_, refl, sym, ap, subst, _∙_}
 use Prim.Native.Nat.{ℕ, _≤_, _<_}
 use native.Mathlib.Omega.{arith}
-use lib.ListN.{length, drop}
+use lib.ListN.{length}
 use Rattle.lists.specs.Lists.{at}
 use Rattle.lists.specs.Below.{mapBelow}
 use Rattle.lists.specs.Places.{at-append}
@@ -58,7 +58,7 @@ one-fair t bus e w b =
 module _ (a b : List ℕ) (w : Alike a b) where
   same-stored : (x : List ℕ) → storedNumerators a x ≡ storedNumerators b x
   unfolding storedNumerators
-  same-stored x = rw (w .sizes) (ap (λ l. l ++ drop (size b) x) (mapBelow-same (numerator a) (numerator b) (size b) (λ v _. same-numerator w v)))
+  same-stored x = rw (w .sizes, mapBelow-same (numerator a) (numerator b) (size b) (λ v _. same-numerator w v))
 
   -- slices that begin with the same table give and store the same
   pub same-answers : SharesAlike a b
