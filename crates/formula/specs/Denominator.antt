@@ -3,7 +3,7 @@
 use mathlib.Core.List.{List}
 use mathlib.Core.Path.{_≡_, refl, subst}
 use Prim.Native.Nat.{ℕ, suc, _+_, _-_, _*_, _≤_, _<_, _∣_}
-use native.Mathlib.Nat.{le-of-dvd}
+use native.Mathlib.Nat.{le-of-dvd, dvd-antisymm}
 use native.Mathlib.Omega.{arith}
 use Rattle.lists.specs.Lists.{_∈_}
 use Rattle.lists.specs.Below.{joinBelow, mapBelow}
@@ -47,6 +47,10 @@ module _ (t : List ℕ) where
         common = λ k a b. lcmAll-multiple (mapBelow m suc) k (up-to m k a b);
         least = λ n h. lcmAll-least (mapBelow m suc) n (λ k i. let w = of-up-to m k i in h k (w .0) (w .1));
       }
+
+  -- and there is no other
+  pub denominator-only : {L : ℕ} → CommonDenominator t L → L ≡ denominator t
+  denominator-only i = dvd-antisymm (i .least _ (common-denominator .common)) (common-denominator .least _ (i .common))
 
   -- d(d+1) divides it, since d and d + 1 share no factor
   pub degrees-divide : (u : ℕ) → u < size t → 0 < degree t u → degree t u * (degree t u + 1) ∣ denominator t

@@ -47,7 +47,7 @@ module _ {t : List ℕ} (w : Holds t) where
   common : Common (range (size t)) (gameOf t) (denominator t)
   common u i = degrees-divide t u (of-range u (size t) i)
 
-  -- SYMMETRY: v watches just the buses that watch it. Here it is used, and nowhere else
+  -- SYMMETRY: v watches just the buses that watch it. Only here is it used that the table is mirrored; what rests on that cites this
   pub two-way : (u v : ℕ) → u < size t → v < size t → has v (row t u) ≡ has u (row t v)
   unfolding row
   two-way u v = w .mirrored u v

@@ -13,7 +13,7 @@ use Rattle.network.specs.Layout.{size, row, degree, need}
 unfoldable pub largestDegree : List ℕ → ℕ
 largestDegree t = largestBelow (size t) (degree t)
 
--- L, the least common multiple of the numbers 1, 2, .. up to 1 plus the largest degree
+-- L, computed: the least common multiple of the list 1, 2, .. up to 1 plus the largest degree
 unfoldable pub denominator : List ℕ → ℕ
 denominator t = lcmAll (mapBelow (1 + largestDegree t) suc)
 
@@ -21,7 +21,7 @@ denominator t = lcmAll (mapBelow (1 + largestDegree t) suc)
 abbrev pub DividedByAll : List ℕ → ℕ → Type 0
 DividedByAll t m = (k : ℕ) → 1 ≤ k → k ≤ 1 + largestDegree t → k ∣ m
 
--- that is what makes L the least common multiple of these numbers: all of them divide it, and it divides every number that all of them divide
+-- L is the least common multiple of these numbers: all of them divide it, and it divides every number that all of them divide
 pub record CommonDenominator (t : List ℕ) (L : ℕ) : Type 0 where
   pub common : DividedByAll t L
   pub least : (m : ℕ) → DividedByAll t m → L ∣ m
