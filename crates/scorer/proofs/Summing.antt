@@ -25,10 +25,10 @@ summed t bus k = ownOf t bus + sumBy (neighbourOf t) (take k (row t bus))
 abbrev pub most : ℕ
 most = (2 + maxDegree) * 5354228880
 
--- L and the row r of the bus, as code has them
-module _ {t : List ℕ} (w : Holds t) {bus over : ℕ} {r : List ℕ} (b : bus < size t) (eo : over ≡ denominator t) (er : r ≡ row t bus) where
-  -- x is what the bus gives to each neighbour
-  module _ {x : ℕ} (ex : x ≡ neighbourOf t bus) where
+-- the row r of a bus, as code has it
+module _ {t : List ℕ} (w : Holds t) {bus : ℕ} {r : List ℕ} (b : bus < size t) (er : r ≡ row t bus) where
+  -- L, and x, which the bus gives to each neighbour
+  module _ {over x : ℕ} (eo : over ≡ denominator t) (ex : x ≡ neighbourOf t bus) where
     rest : ownOf t bus + length r * x ≡ over
     rest = rw (ex, er, eo) (own-rest w bus b)
 

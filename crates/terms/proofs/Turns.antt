@@ -31,20 +31,22 @@ pub units-start : (L : ℕ) → Tabled 1 (unit L) (replicate degrees 0)
 unfolding unit
 units-start L i b = let z : i ≡ 0 = omega arith in at-zeros degrees i ∙ rw z (sym (div-zero L))
 
--- a bus's degree d and need k, as code has them
-module _ {t : List ℕ} (w : Holds t) {bus d k : ℕ} (b : bus < size t) (ed : d ≡ degree t bus) (ek : k ≡ need t bus) where
+-- a bus's degree, as code has it
+module _ {t : List ℕ} (w : Holds t) {bus d : ℕ} (b : bus < size t) (ed : d ≡ degree t bus) where
   pub degree-read : d < degrees
   degree-read = omega (arith, degree-few w bus b)
 
+-- and its need
+module _ (t : List ℕ) (bus : ℕ) {d k : ℕ} (ed : d ≡ degree t bus) (ek : k ≡ need t bus) where
   pub gives-none : d < k → 0 ≡ neighbourOf t bus
   unfolding neighbourOf neighbourTerm
   gives-none l = rw (← ed, ← ek, lt-leb k d l)
 
-  -- and the unit u of that degree
+  -- and the unit of its degree
   module _ {u : ℕ} (eu : u ≡ unit (denominator t) d) (l : k ≤ d) where
     pub gives-some : (d + 1 - k) * u ≡ neighbourOf t bus
     unfolding neighbourOf neighbourTerm unit
     gives-some = rw (eu, ← ed, ← ek, le-leb k d l)
 
-    pub some-fits : (d + 1 - k) * u ≤ 5354228880
-    some-fits = omega (arith, gives-some, neighbour-most t bus, denominator-most w)
+    pub some-fits : Holds t → (d + 1 - k) * u ≤ 5354228880
+    some-fits w = omega (arith, gives-some, neighbour-most t bus, denominator-most w)

@@ -25,7 +25,7 @@ module _ (c : tie.After-entry) where
 
   unit-is : let d = length (c .before .before .neighbours .result .now) in getD (start c .args .units .now) d 0 ≡ unit (denominator (start c .args .table .now)) d
   unfolding at
-  unit-is = start c .pre .1 _ (degree-read (start c .pre .0 .0) (start c .pre .0 .1) degree-is need-is)
+  unit-is = start c .pre .1 _ (degree-read (start c .pre .0 .0) (start c .pre .0 .1) degree-is)
 
 entry-requires : tie.Need-entry-requires
 entry-requires c κs =
@@ -35,19 +35,19 @@ entry-requires c κs =
 returns : tie.Need-returns
 returns c =
     let p = c .before in
-    gives-none (start p .pre .0 .0) (start p .pre .0 .1) (degree-is p) (need-is p) (c .if1 .taken)
+    gives-none _ _ (degree-is p) (need-is p) (c .if1 .taken)
 
 mul-result : tie.Need-mul-result
-mul-result c = let p = c .before in omega (arith, degree-read (start p .pre .0 .0) (start p .pre .0 .1) (degree-is p) (need-is p))
+mul-result c = let p = c .before in omega (arith, degree-read (start p .pre .0 .0) (start p .pre .0 .1) (degree-is p))
 
 element-copy-out-result : tie.Need-element-copy-out-result
-element-copy-out-result c = let p = c .before in degree-read (start p .pre .0 .0) (start p .pre .0 .1) (degree-is p) (need-is p)
+element-copy-out-result c = let p = c .before in degree-read (start p .pre .0 .0) (start p .pre .0 .1) (degree-is p)
 
 returns-2 : tie.Need-returns-2
-returns-2 c = let p = c .before .before in gives-some (start p .pre .0 .0) (start p .pre .0 .1) (degree-is p) (need-is p) (unit-is p) (c .before .if1 .left)
+returns-2 c = let p = c .before .before in gives-some _ _ (degree-is p) (need-is p) (unit-is p) (c .before .if1 .left)
 
 mul-result-2 : tie.Need-mul-result-2
-mul-result-2 c = let p = c .before .before in omega (arith, some-fits (start p .pre .0 .0) (start p .pre .0 .1) (degree-is p) (need-is p) (unit-is p) (c .before .if1 .left))
+mul-result-2 c = let p = c .before .before in omega (arith, some-fits (start p .args .table .now) (start p .args .bus) (degree-is p) (need-is p) (unit-is p) (c .before .if1 .left) (start p .pre .0 .0))
 
 pub term-spec : {M : Type 1} → statement M
 term-spec =
