@@ -11,8 +11,8 @@ use Rattle.refusals.specs.declared.Refusal.{Refusal}
 use Rattle.refusals.specs.Numbers.{numberOf}
 use Rattle.refusals.specs.Outcomes.{gives, refuses, Cause, _⇒_, outcome}
 use Rattle.refusals.specs.Causes.{stops, goes-on}
-use Rattle.network.specs.Holds.{within}
-use Rattle.network.specs.Facts.{within-facts, within-test}
+use Rattle.tables.specs.Holds.{within}
+use Rattle.tables.specs.Facts.{within-facts, within-test}
 use Rattle.file.specs.Bytes.{wordAt, busCount, lineCount}
 use Rattle.file.specs.Sections.{endsBefore, goesOn, sectionCauses, counts, sectionsOutcome}
 

@@ -6,7 +6,7 @@ use Prim.Native.Nat.{ℕ}
 use Rattle.lists.specs.Lists.{at}
 use Rattle.lists.specs.Below.{allBelow}
 use Rattle.refusals.specs.Outcomes.{gives, refuses}
-use Rattle.network.specs.Holds.{within, fairNeeds}
+use Rattle.tables.specs.Holds.{within, fairNeeds}
 use Rattle.file.specs.Bytes.{wordAt, needBytes, records, firstEnd, secondEnd}
 use Rattle.file.specs.Sections.{endsBefore, goesOn, sectionsOutcome, twoBuses, soundEnds}
 

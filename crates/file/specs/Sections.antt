@@ -9,8 +9,8 @@ use Rattle.lists.specs.Below.{allBelow}
 use Rattle.refusals.specs.declared.Refusal.the-variants.{FileTooShort, BusCount, Need, LineCount, FileTooLong}
 use Rattle.refusals.specs.Numbers.{numberOf}
 use Rattle.refusals.specs.Outcomes.{Outcome, gives, refuses, Cause, _⇒_, outcome}
-use Rattle.network.specs.Limits.{maxBuses, maxLines}
-use Rattle.network.specs.Holds.{within, fairNeeds}
+use Rattle.tables.specs.Limits.{maxBuses, maxLines}
+use Rattle.tables.specs.Holds.{within, fairNeeds}
 use Rattle.file.specs.declared.Counts.{Counts}
 use Rattle.file.specs.declared.Reading.{Reading}
 use Rattle.file.specs.declared.Reading.the-variants.{Accepted, Refused}

@@ -14,9 +14,9 @@ use Rattle.lists.specs.Loops.{allBelow-at, allBelow-by}
 use Rattle.lists.specs.Places.{length-part}
 use Rattle.refusals.specs.Outcomes.{gives}
 use Rattle.refusals.specs.Causes.{no-cause}
-use Rattle.network.specs.Limits.{maxBuses, maxLines, maxBytes}
-use Rattle.network.specs.Holds.{fairNeeds}
-use Rattle.network.specs.Facts.{within-facts}
+use Rattle.tables.specs.Limits.{maxBuses, maxLines, maxBytes}
+use Rattle.tables.specs.Holds.{fairNeeds}
+use Rattle.tables.specs.Facts.{within-facts}
 use Rattle.file.specs.declared.Counts.{Counts}
 use Rattle.file.specs.Bytes.{busCount, needsEnd, needBytes, lineCount, recordsAt, fileEnd, records, firstEnd, secondEnd}
 use Rattle.file.specs.Sections.{endsBefore, goesOn, sectionCauses, counts, sectionsOutcome, twoBuses, soundEnds}

@@ -2,8 +2,8 @@
 ghost use mathlib.Core.Path.{_≡_};
 ghost use Prim.Native.Nat.{_+_, _*_, _≤_, _<_};
 ghost use lib.ListN.{length};
-ghost use Rattle.network.specs.Limits.{maxNeed};
-ghost use Rattle.network.specs.Holds.{within, fairNeeds};
+ghost use Rattle.tables.specs.Limits.{maxNeed};
+ghost use Rattle.tables.specs.Holds.{within, fairNeeds};
 ghost use Rattle.file.specs.Bytes.{wordAt, busCount, needsEnd, needBytes, records, firstEnd, secondEnd};
 ghost use Rattle.file.specs.Sound.{Sound};
 ghost use Rattle.file.specs.Sections.{readingSays, sectionsOutcome, twoBuses, soundEnds};

@@ -10,10 +10,10 @@ use Rattle.lists.specs.Below.{joinBelow, mapBelow}
 use Rattle.lists.specs.Range.{largestBelow-at, largestBelow-le, in-mapBelow, of-mapBelow}
 use Rattle.fraction.specs.Divisors.{gcdOf, lcmOf, lcmAll}
 use Rattle.fraction.specs.Lcm.{next-product, lcmAll-multiple, lcmAll-least, lcmAll-part}
-use Rattle.network.specs.Limits.{maxDegree}
-use Rattle.network.specs.Layout.{size, row, degree}
-use Rattle.network.specs.Holds.{Holds}
-use Rattle.network.specs.Rows.{row-few}
+use Rattle.tables.specs.Limits.{maxDegree}
+use Rattle.tables.specs.Layout.{size, row, degree}
+use Rattle.tables.specs.Holds.{Holds}
+use Rattle.tables.specs.Rows.{row-few}
 use Rattle.formula.specs.Formula.{largestDegree, denominator, CommonDenominator}
 
 -- ---- the numbers 1, 2, .. up to m

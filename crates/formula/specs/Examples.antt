@@ -8,7 +8,7 @@ use Rattle.lists.specs.Below.{largestBelow, joinBelow, mapBelow, range}
 use Rattle.fraction.specs.Divisors.{gcdOf, lcmOf, lcmAll}
 use Rattle.game.specs.Orders.{orders}
 use Rattle.game.specs.Game.{seen, value, gain, ownTerm, neighbourTerm}
-use Rattle.network.specs.Layout.{rowAt, size, needs, starts, links, row}
+use Rattle.tables.specs.Layout.{rowAt, size, needs, starts, links, row}
 use Rattle.formula.specs.Formula.{largestDegree, denominator, ownOf, neighbourOf, numerator, gameOf}
 
 -- one bus with need k, and no line

@@ -15,9 +15,9 @@ use Rattle.lists.specs.Range.{sumBy-range, in-range, of-range, range-once, leng
 use Rattle.game.specs.Game.{GameOn, Common, Fair, numerator as formula}
 use Rattle.game.specs.Fairness.{fairness-buses}
 use Rattle.game.specs.Total.{total}
-use Rattle.network.specs.Layout.{size, row}
-use Rattle.network.specs.Holds.{Holds, TidyRow}
-use Rattle.network.specs.Rows.{tidy-once, tidy-below, tidy-others}
+use Rattle.tables.specs.Layout.{size, row}
+use Rattle.tables.specs.Holds.{Holds, TidyRow}
+use Rattle.tables.specs.Rows.{tidy-once, tidy-below, tidy-others}
 use Rattle.formula.specs.Formula.{denominator, ownOf, neighbourOf, numerator, gameOf, FairShare}
 use Rattle.formula.specs.Denominator.{common-denominator, degrees-divide}
 use Rattle.formula.specs.Terms.{need-least}

@@ -10,8 +10,8 @@ use Rattle.lists.specs.Lists.{sumBy, _∈_}
 use Rattle.lists.specs.Counts.{in-has, has-in, in-length, sumBy-cong-in}
 use Rattle.game.specs.Game.{ownTerm, neighbourTerm}
 use Rattle.game.specs.Total.{coarser}
-use Rattle.network.specs.Layout.{size, row, degree, need}
-use Rattle.network.specs.Holds.{Holds}
+use Rattle.tables.specs.Layout.{size, row, degree, need}
+use Rattle.tables.specs.Holds.{Holds}
 use Rattle.formula.specs.Formula.{denominator, ownOf, neighbourOf, numerator}
 use Rattle.formula.specs.Denominator.{degrees-divide}
 use Rattle.formula.specs.Fair.{neighbour-below, two-way}

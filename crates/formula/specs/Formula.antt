@@ -6,7 +6,7 @@ use Rattle.lists.specs.Lists.{sumBy}
 use Rattle.lists.specs.Below.{largestBelow, mapBelow}
 use Rattle.fraction.specs.Divisors.{lcmAll}
 use Rattle.game.specs.Game.{Game, ownTerm, neighbourTerm, Fair}
-use Rattle.network.specs.Layout.{size, row, degree, need}
+use Rattle.tables.specs.Layout.{size, row, degree, need}
 
 -- ---- the common denominator
 

@@ -7,8 +7,8 @@ use Rattle.lists.specs.Lists.{sumBy}
 use Rattle.lists.specs.Below.{largestBelow, mapBelow}
 use Rattle.lists.specs.Sums.{sumBy-cong}
 use Rattle.fraction.specs.Divisors.{lcmAll}
-use Rattle.network.specs.Layout.{size, row}
-use Rattle.network.specs.Answers.{Alike}
+use Rattle.tables.specs.Layout.{size, row}
+use Rattle.tables.specs.Answers.{Alike}
 use Rattle.formula.specs.Formula.{largestDegree, denominator, ownOf, neighbourOf, numerator}
 
 module _ {a b : List ℕ} (w : Alike a b) where

@@ -11,9 +11,9 @@ use Rattle.lists.specs.Tests.{split}
 use Rattle.lists.specs.Sums.{sumBy-const, sumBy-le}
 use Rattle.game.specs.Game.{neighbourTerm}
 use Rattle.game.specs.Total.{terms-whole}
-use Rattle.network.specs.Layout.{size, need, degree}
-use Rattle.network.specs.Holds.{Holds}
-use Rattle.network.specs.Rows.{length-needs}
+use Rattle.tables.specs.Layout.{size, need, degree}
+use Rattle.tables.specs.Holds.{Holds}
+use Rattle.tables.specs.Rows.{length-needs}
 use Rattle.formula.specs.Formula.{denominator, ownOf, neighbourOf}
 use Rattle.formula.specs.Denominator.{degrees-divide}
 

@@ -18,10 +18,10 @@ use Rattle.lists.specs.Sums.{sumBy-cong, sumBy-zero}
 use Rattle.lists.specs.Counts.{in-has, has-in, has-none}
 use Rattle.lists.specs.Places.{at-zeros, at-set, at-take, in-at, at-in, count-none, count-under-next, ascending-place}
 use Rattle.lists.specs.Loops.{sumBy-take-next, allBelow-at, allBelow-by}
-use Rattle.network.specs.Layout.{rowAt}
-use Rattle.network.specs.Holds.{TidyRow, SoundRows, Mirrored}
+use Rattle.tables.specs.Layout.{rowAt}
+use Rattle.tables.specs.Holds.{TidyRow, SoundRows, Mirrored}
 use Rattle.network.specs.Cursors.{isAt, Matched}
-use Rattle.network.specs.Rows.{tidy-once}
+use Rattle.tables.specs.Rows.{tidy-once}
 
 -- ---- one row: the cursors of the rows that its first k entries name have moved on by one, from x to y
 

@@ -1,39 +1,12 @@
--- What Degree and Row answer, for every slice and bus.
+-- What an answer of Degree stands for.
 -- Definitions only. Assumes nothing.
-use mathlib.Core.Bool.{not}
-use mathlib.Core.List.{List, [], _∷_}
-use mathlib.Core.Path.{_≡_}
 use Prim.Native.Nat.{ℕ}
-use lib.Dec.{ltb}
-use Rattle.refusals.specs.declared.Refusal.the-variants.{NoNetwork, NoSuchBus}
 use Rattle.refusals.specs.Numbers.{numberOf}
-use Rattle.refusals.specs.Outcomes.{Outcome, gives, refuses, Cause, _⇒_, outcome, valuesOr}
+use Rattle.refusals.specs.Outcomes.{Outcome, gives, refuses}
 use Rattle.network.specs.declared.Degree.{Degree}
 use Rattle.network.specs.declared.Degree.the-variants.{Is, Refused}
-use Rattle.network.specs.Layout.{size, needs, row, degree}
-use Rattle.network.specs.Holds.{holds}
 
--- why a call on a bus of a table is refused: the slice holds no network; the bus is n or above
-abbrev pub busCauses : List ℕ → ℕ → List Cause
-busCauses t bus = (not (holds t) ⇒ NoNetwork) ∷ (not (ltb bus (size t)) ⇒ NoSuchBus) ∷ []
-
--- the value or the number that an answer of Degree stands for
+-- the value, or 01's number of the refusal
 abbrev pub degreeSays : Degree → Outcome ℕ
 degreeSays (Is d) = gives d
 degreeSays (Refused r) = refuses (numberOf r)
-
-abbrev pub degreeOutcome : List ℕ → ℕ → Outcome ℕ
-degreeOutcome t bus = outcome (busCauses t bus) (degree t bus)
-
--- the neighbours of a bus; the empty part where Degree would refuse
-abbrev pub rowOutcome : List ℕ → ℕ → List ℕ
-rowOutcome t bus = valuesOr [] (outcome (busCauses t bus) (row t bus))
-
--- two slices are the same network to every call, or both are none
-pub record Alike (a b : List ℕ) : Type 0 where
-  pub judged : holds a ≡ holds b
-  pub sizes : size a ≡ size b
-  pub needed : needs a ≡ needs b
-  pub rows : (i : ℕ) → row a i ≡ row b i
-  pub degreeAnswers : (bus : ℕ) → degreeOutcome a bus ≡ degreeOutcome b bus
-  pub rowAnswers : (bus : ℕ) → rowOutcome a bus ≡ rowOutcome b bus

@@ -9,7 +9,7 @@ use lib.Dec.{ltb, eqb}
 use lib.ListN.{length}
 use Rattle.lists.specs.Lists.{count, at}
 use Rattle.lists.specs.Below.{allBelow}
-use Rattle.network.specs.Layout.{rowAt}
+use Rattle.tables.specs.Layout.{rowAt}
 
 -- row r has an entry c, and it is i
 unfoldable pub isAt : List ℕ → ℕ → ℕ → Bool

@@ -1,12 +1,3 @@
-pub mod Limits
-pub mod Layout
-pub mod Holds
+-- What an answer of Degree stands for, and what the helpers of the mirror test promise one another.
 pub mod Answers
 pub mod Cursors
-pub mod Examples
-pub mod Rows
-pub mod Facts
-pub mod Calls
-pub mod Lines
-pub mod Beyond
-pub mod Laid

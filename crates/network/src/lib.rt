@@ -1,7 +1,8 @@
 // Networks: their limits, and the degree and the row of a bus. A network is a line table in a lent slice.
 ghost use mathlib.Core.Path.{_≡_};
-ghost use Rattle.network.specs.Limits.{maxBuses, maxDegree, maxNeed, maxLines, maxEntries, maxBytes};
-ghost use Rattle.network.specs.Answers.{degreeSays, degreeOutcome, rowOutcome};
+ghost use Rattle.tables.specs.Limits.{maxBuses, maxDegree, maxNeed, maxLines, maxEntries, maxBytes};
+ghost use Rattle.tables.specs.Answers.{degreeOutcome, rowOutcome};
+ghost use Rattle.network.specs.Answers.{degreeSays};
 
 pub mod rows;
 pub mod table;

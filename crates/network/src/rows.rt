@@ -4,9 +4,9 @@ ghost use mathlib.Core.Bool.{_&&_};
 ghost use Prim.Native.Nat.{_+_, _≤_, _<_};
 ghost use lib.ListN.{length};
 ghost use Rattle.lists.specs.Lists.{at};
-ghost use Rattle.network.specs.Limits.{maxBuses};
-ghost use Rattle.network.specs.Layout.{rowAt};
-ghost use Rattle.network.specs.Holds.{neverFall, shortRows, tidyRow, tidyRows, soundRows, mirrored, Spans, TidyRow, SoundRows};
+ghost use Rattle.tables.specs.Limits.{maxBuses};
+ghost use Rattle.tables.specs.Layout.{rowAt};
+ghost use Rattle.tables.specs.Holds.{neverFall, shortRows, tidyRow, tidyRows, soundRows, mirrored, Spans, TidyRow, SoundRows};
 ghost use Rattle.network.specs.Cursors.{isAt, Matched};
 use super::Network;
 

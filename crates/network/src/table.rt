@@ -2,8 +2,8 @@
 ghost use mathlib.Core.Path.{_≡_};
 ghost use Prim.Native.Nat.{_+_, _^_, _≤_, _<_};
 ghost use lib.ListN.{length};
-ghost use Rattle.network.specs.Layout.{size, needs, starts, links, startsAt, row, lines};
-ghost use Rattle.network.specs.Holds.{complete, fairNeeds, twoWay, holds, Complete, Holds};
+ghost use Rattle.tables.specs.Layout.{size, needs, starts, links, startsAt, row, lines};
+ghost use Rattle.tables.specs.Holds.{complete, fairNeeds, twoWay, holds, Complete, Holds};
 use super::Network;
 use super::rows::entry;
 use super::rows::mirrored;

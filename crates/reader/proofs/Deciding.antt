@@ -11,9 +11,9 @@ use Rattle.lists.specs.Range.{joinBelow-same}
 use Rattle.lists.specs.Writes.{put-front, stored-list}
 use Rattle.refusals.specs.Outcomes.{Outcome, gives, refuses, Cause, outcome, valuesOr}
 use Rattle.refusals.specs.Causes.{first-refuses, then-decides}
-use Rattle.network.specs.Limits.{maxBuses}
-use Rattle.network.specs.Layout.{laid, tableOf}
-use Rattle.network.specs.Laid.{length-laid, laid-same}
+use Rattle.tables.specs.Limits.{maxBuses}
+use Rattle.tables.specs.Layout.{laid, tableOf}
+use Rattle.tables.specs.Laid.{length-laid, laid-same}
 use Rattle.rows.specs.Held.{held}
 use Rattle.file.specs.declared.Counts.{Counts}
 use Rattle.file.specs.Bytes.{busCount, needBytes, lineCount, records}

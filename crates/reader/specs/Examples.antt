@@ -6,8 +6,8 @@ use lib.ListN.{take, replicate}
 use Rattle.lists.specs.Lists.{at}
 use Rattle.lists.specs.Below.{allBelow, anyBelow, sumBelow, joinBelow, mapBelow, listBelow}
 use Rattle.refusals.specs.Outcomes.{gives, refuses}
-use Rattle.network.specs.Layout.{laid, tableOf}
-use Rattle.network.specs.Holds.{within, fairNeeds}
+use Rattle.tables.specs.Layout.{laid, tableOf}
+use Rattle.tables.specs.Holds.{within, fairNeeds}
 use Rattle.file.specs.Bytes.{wordAt, needBytes, records}
 use Rattle.file.specs.Sections.{endsBefore, goesOn, twoBuses, soundEnds}
 use Rattle.records.specs.Records.{names, joins, joined, neighbours, crowded, repeats, repeated}

@@ -9,8 +9,8 @@ use lib.ListN.{length, drop}
 use Rattle.lists.specs.Lists.{has}
 use Rattle.refusals.specs.declared.Refusal.the-variants.{LineEnds, CrowdedBus, RepeatedLine, TableTooShort}
 use Rattle.refusals.specs.Outcomes.{Outcome, Cause, _⇒_, outcome, valuesOr}
-use Rattle.network.specs.Layout.{size, needs, row, lines, tableOf}
-use Rattle.network.specs.Holds.{Holds}
+use Rattle.tables.specs.Layout.{size, needs, row, lines, tableOf}
+use Rattle.tables.specs.Holds.{Holds}
 use Rattle.file.specs.declared.Counts.{Counts}
 use Rattle.file.specs.Bytes.{busCount, needBytes, lineCount, records}
 use Rattle.file.specs.Sections.{sectionCauses, counts, soundEnds}

@@ -10,11 +10,11 @@ use Rattle.lists.specs.Lists.{has}
 use Rattle.lists.specs.Below.{joinBelow}
 use Rattle.refusals.specs.Outcomes.{gives, refuses, valuesOr}
 use Rattle.refusals.specs.Causes.{NoneHolds, no-cause, none-gives, none-both, refuses-any}
-use Rattle.network.specs.Layout.{tableOf}
-use Rattle.network.specs.Holds.{Holds}
-use Rattle.network.specs.Facts.{fair-facts}
-use Rattle.network.specs.Laid.{length-tableOf, made-size, made-needs, made-last, made-row, made-holds}
-use Rattle.network.specs.Lines.{two-for-each}
+use Rattle.tables.specs.Layout.{tableOf}
+use Rattle.tables.specs.Holds.{Holds}
+use Rattle.tables.specs.Facts.{fair-facts}
+use Rattle.tables.specs.Laid.{length-tableOf, made-size, made-needs, made-last, made-row, made-holds}
+use Rattle.tables.specs.Lines.{two-for-each}
 use Rattle.file.specs.declared.Counts.{Counts}
 use Rattle.file.specs.Bytes.{busCount, needBytes, lineCount, records}
 use Rattle.file.specs.Sections.{sectionCauses, counts, soundEnds}

@@ -5,7 +5,7 @@ ghost use Prim.Native.Nat.{_+_, _≤_};
 ghost use lib.ListN.{length};
 ghost use Rattle.lists.specs.Lists.{put};
 ghost use Rattle.refusals.specs.Outcomes.{outcome, valuesOr};
-ghost use Rattle.network.specs.Limits.{maxBuses};
+ghost use Rattle.tables.specs.Limits.{maxBuses};
 ghost use Rattle.file.specs.Bytes.{busCount, lineCount};
 ghost use Rattle.file.specs.Sections.{counts, readingSays};
 ghost use Rattle.file.specs.Sound.{Sound};

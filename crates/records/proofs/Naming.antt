@@ -14,7 +14,7 @@ use Rattle.lists.specs.Sums.{tally-le}
 use Rattle.lists.specs.Places.{at-set}
 use Rattle.lists.specs.Loops.{sumBelow-next}
 use Rattle.lists.specs.Range.{countBelow-le}
-use Rattle.network.specs.Limits.{maxBuses, maxDegree}
+use Rattle.tables.specs.Limits.{maxBuses, maxDegree}
 use Rattle.rows.specs.Held.{Blank}
 use Rattle.file.specs.Bytes.{firstEnd, secondEnd}
 use Rattle.file.specs.Sound.{TwoBuses, ends-facts, ends-test}

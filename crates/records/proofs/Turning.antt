@@ -11,7 +11,7 @@ use Rattle.lists.specs.Lists.{has}
 use Rattle.lists.specs.Below.{anyBelow}
 use Rattle.lists.specs.Tests.{or-left, or-right}
 use Rattle.lists.specs.Range.{listBelow-same, listBelow-none, has-listBelow, countBelow-more}
-use Rattle.network.specs.Limits.{maxBuses, maxDegree}
+use Rattle.tables.specs.Limits.{maxBuses, maxDegree}
 use Rattle.insertion.specs.declared.Inserted.{Inserted}
 use Rattle.insertion.specs.declared.Inserted.the-variants.{Added}
 use Rattle.insertion.specs.Insertion.{insert}

@@ -7,7 +7,7 @@ use Prim.Native.Nat.{ℕ, _≤_, _<_}
 use lib.ListN.{length}
 use Rattle.lists.specs.Lists.{at}
 use Rattle.lists.specs.Below.{countBelow}
-use Rattle.network.specs.Limits.{maxBuses, maxLines}
+use Rattle.tables.specs.Limits.{maxBuses, maxLines}
 use Rattle.rows.specs.Held.{held, Rows}
 use Rattle.file.specs.Sections.{soundEnds}
 use Rattle.records.specs.Records.{names, neighbours}

@@ -12,8 +12,8 @@ use Rattle.lists.specs.Lists.{has}
 use Rattle.lists.specs.Tests.{split, fails, and-left, and-right, or-cases}
 use Rattle.lists.specs.Loops.{anyBelow-at}
 use Rattle.lists.specs.Range.{count-listBelow, has-listBelow, listBelow-in, listBelow-ascends}
-use Rattle.network.specs.Limits.{maxDegree}
-use Rattle.network.specs.Holds.{TidyRow}
+use Rattle.tables.specs.Limits.{maxDegree}
+use Rattle.tables.specs.Holds.{TidyRow}
 use Rattle.file.specs.Bytes.{firstEnd, secondEnd}
 use Rattle.file.specs.Sections.{soundEnds}
 use Rattle.file.specs.Sound.{ends-facts}

@@ -14,7 +14,7 @@ use Rattle.lists.specs.Tests.{and-left, and-right, or-cases}
 use Rattle.lists.specs.Sums.{tally-or, tally-or-le}
 use Rattle.lists.specs.Loops.{anyBelow-next, anyBelow-none}
 use Rattle.lists.specs.Range.{sumBelow-same, sumBelow-add, sumBelow-le, sumBelow-const, countBelow-one, length-joinBelow, length-listBelow}
-use Rattle.network.specs.Limits.{maxDegree}
+use Rattle.tables.specs.Limits.{maxDegree}
 use Rattle.file.specs.Bytes.{firstEnd, secondEnd}
 use Rattle.file.specs.Sound.{SoundEnds}
 use Rattle.records.specs.Records.{names, joins, joined, neighbours, crowded, repeats, repeated}

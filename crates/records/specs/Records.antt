@@ -5,7 +5,7 @@ use mathlib.Core.List.{List}
 use Prim.Native.Nat.{ℕ}
 use lib.Dec.{ltb, eqb}
 use Rattle.lists.specs.Below.{anyBelow, countBelow, listBelow}
-use Rattle.network.specs.Limits.{maxDegree}
+use Rattle.tables.specs.Limits.{maxDegree}
 use Rattle.file.specs.Bytes.{firstEnd, secondEnd}
 
 -- record k names bus b

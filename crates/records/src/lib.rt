@@ -6,7 +6,7 @@ ghost use lib.Dec.{ltb};
 ghost use lib.ListN.{length};
 ghost use Rattle.lists.specs.Lists.{at};
 ghost use Rattle.lists.specs.Below.{anyBelow};
-ghost use Rattle.network.specs.Limits.{maxBuses, maxDegree};
+ghost use Rattle.tables.specs.Limits.{maxBuses, maxDegree};
 ghost use Rattle.rows.specs.Held.{maxSlots, Blank};
 ghost use Rattle.records.specs.Records.{crowded, repeated};
 ghost use Rattle.records.specs.Filling.{SoundRecords, Named, Filled};

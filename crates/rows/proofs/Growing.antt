@@ -13,7 +13,7 @@ use Rattle.lists.specs.Lists.{has, at, part, Ascending, put}
 use Rattle.lists.specs.Tests.{split, eqb-self, eqb-comm}
 use Rattle.lists.specs.Places.{at-set, length-part}
 use Rattle.lists.specs.Writes.{length-put, part-put, part-put-before, part-put-behind, put-part}
-use Rattle.network.specs.Limits.{maxBuses, maxDegree}
+use Rattle.tables.specs.Limits.{maxBuses, maxDegree}
 use Rattle.insertion.specs.declared.Inserted.the-variants.{Added, Present, Full}
 use Rattle.insertion.specs.Insertion.{insert, RowAfter}
 use Rattle.insertion.specs.Inserting.{insert-length, insert-ascends}

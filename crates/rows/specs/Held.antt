@@ -7,7 +7,7 @@ use Prim.Native.Nat.{ℕ, _*_, _≤_, _<_}
 use lib.Dec.{eqb}
 use lib.ListN.{length, take, drop}
 use Rattle.lists.specs.Lists.{has, at, Ascending}
-use Rattle.network.specs.Limits.{maxBuses, maxDegree}
+use Rattle.tables.specs.Limits.{maxBuses, maxDegree}
 use Rattle.insertion.specs.declared.Inserted.{Inserted}
 use Rattle.insertion.specs.declared.Inserted.the-variants.{Added, Present, Full}
 use Rattle.insertion.specs.Insertion.{insert}

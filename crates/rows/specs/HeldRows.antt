@@ -10,7 +10,7 @@ use Rattle.lists.specs.Lists.{has, at, part}
 use Rattle.lists.specs.Below.{sumBelow, joinBelow}
 use Rattle.lists.specs.Tests.{never-both}
 use Rattle.lists.specs.Range.{sumBelow-same, length-joinBelow}
-use Rattle.network.specs.Limits.{maxBuses, maxDegree}
+use Rattle.tables.specs.Limits.{maxBuses, maxDegree}
 use Rattle.insertion.specs.declared.Inserted.{Inserted}
 use Rattle.insertion.specs.declared.Inserted.the-variants.{Added, Present, Full}
 use Rattle.insertion.specs.Insertion.{isAdded}

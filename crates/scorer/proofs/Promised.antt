@@ -9,8 +9,8 @@ use Rattle.lists.specs.Below.{mapBelow}
 use Rattle.lists.specs.Writes.{put-front}
 use Rattle.lists.specs.Range.{length-mapBelow}
 use Rattle.refusals.specs.Outcomes.{Outcome, gives, refuses, valuesOr}
-use Rattle.network.specs.Layout.{size}
-use Rattle.network.specs.Holds.{holds}
+use Rattle.tables.specs.Layout.{size}
+use Rattle.tables.specs.Holds.{holds}
 use Rattle.formula.specs.Formula.{denominator, numerator}
 use Rattle.scorer.specs.Answers.{sharesOutcome, storedNumerators, numeratorsAfter, AllFair, shareOutcome, OneFair}
 use Rattle.scorer.specs.Calls.{no-network, too-short, accepted}

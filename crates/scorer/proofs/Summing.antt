@@ -9,9 +9,9 @@ use lib.Seq.{take-all, length-take-le}
 use Rattle.lists.specs.Lists.{sumBy, at}
 use Rattle.lists.specs.Loops.{sumBy-take-next}
 use Rattle.lists.specs.Places.{in-at}
-use Rattle.network.specs.Limits.{maxDegree}
-use Rattle.network.specs.Layout.{size, row}
-use Rattle.network.specs.Holds.{Holds}
+use Rattle.tables.specs.Limits.{maxDegree}
+use Rattle.tables.specs.Layout.{size, row}
+use Rattle.tables.specs.Holds.{Holds}
 use Rattle.formula.specs.Formula.{denominator, ownOf, neighbourOf, numerator}
 use Rattle.formula.specs.Denominator.{degree-few, denominator-most}
 use Rattle.formula.specs.Terms.{neighbour-most, neighbours-most, own-rest}

@@ -11,9 +11,9 @@ use Rattle.lists.specs.Below.{sumBelow, mapBelow}
 use Rattle.refusals.specs.declared.Refusal.the-variants.{NoNetwork, NumeratorsTooShort}
 use Rattle.refusals.specs.Numbers.{numberOf}
 use Rattle.refusals.specs.Outcomes.{Outcome, gives, refuses, Cause, _⇒_, outcome, valuesOr}
-use Rattle.network.specs.Layout.{size}
-use Rattle.network.specs.Holds.{holds, Holds}
-use Rattle.network.specs.Answers.{busCauses}
+use Rattle.tables.specs.Layout.{size}
+use Rattle.tables.specs.Holds.{holds, Holds}
+use Rattle.tables.specs.Answers.{busCauses}
 use Rattle.formula.specs.Formula.{denominator, numerator, FairShare}
 use Rattle.scorer.specs.declared.AllShares.{AllShares}
 use Rattle.scorer.specs.declared.AllShares.the-variants as all

@@ -6,8 +6,8 @@ use Prim.Native.Nat.{ℕ, _≤_, _<_}
 use native.Mathlib.Omega.{arith}
 use borrow.Author.Tests.{le-ltb, lt-ltb}
 use Rattle.refusals.specs.Outcomes.{gives, refuses, outcome}
-use Rattle.network.specs.Layout.{size}
-use Rattle.network.specs.Holds.{holds}
+use Rattle.tables.specs.Layout.{size}
+use Rattle.tables.specs.Holds.{holds}
 use Rattle.scorer.specs.Answers.{sharesCauses}
 
 module _ {A : Type 0} (t : List ℕ) (lent : ℕ) (values : A) where

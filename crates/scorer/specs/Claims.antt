@@ -9,11 +9,11 @@ use Rattle.lists.specs.Below.{mapBelow}
 use Rattle.lists.specs.Places.{at-append}
 use Rattle.lists.specs.Range.{sumBelow-same, length-mapBelow, mapBelow-at, mapBelow-same}
 use Rattle.refusals.specs.Outcomes.{Outcome, gives, outcome}
-use Rattle.network.specs.Layout.{size}
-use Rattle.network.specs.Holds.{Holds}
-use Rattle.network.specs.Facts.{holds-test}
-use Rattle.network.specs.Calls.{given}
-use Rattle.network.specs.Answers.{Alike}
+use Rattle.tables.specs.Layout.{size}
+use Rattle.tables.specs.Holds.{Holds}
+use Rattle.tables.specs.Facts.{holds-test}
+use Rattle.tables.specs.Calls.{given}
+use Rattle.tables.specs.Answers.{Alike}
 use Rattle.formula.specs.Formula.{denominator, numerator, FairShare}
 use Rattle.formula.specs.Fair.{fair, whole}
 use Rattle.formula.specs.Same.{same-denominator, same-numerator}

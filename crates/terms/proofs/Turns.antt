@@ -11,8 +11,8 @@ use Rattle.lists.specs.Below.{largestBelow}
 use Rattle.lists.specs.Loops.{largestBelow-next}
 use Rattle.lists.specs.Places.{at-zeros}
 use Rattle.game.specs.Game.{neighbourTerm}
-use Rattle.network.specs.Layout.{size, degree, need}
-use Rattle.network.specs.Holds.{Holds}
+use Rattle.tables.specs.Layout.{size, degree, need}
+use Rattle.tables.specs.Holds.{Holds}
 use Rattle.formula.specs.Formula.{denominator, neighbourOf}
 use Rattle.formula.specs.Denominator.{degree-few, denominator-most}
 use Rattle.formula.specs.Terms.{neighbour-most}

@@ -11,7 +11,7 @@ use Rattle.lists.specs.Tests.{split}
 use Rattle.lists.specs.Range.{in-mapBelow, of-mapBelow}
 use Rattle.fraction.specs.Divisors.{lcmOf, lcmAll}
 use Rattle.fraction.specs.Lcm.{lcmAll-multiple, lcmAll-least, lcmAll-next}
-use Rattle.network.specs.Limits.{maxDegree}
+use Rattle.tables.specs.Limits.{maxDegree}
 use Rattle.formula.specs.Denominator.{up-to, of-up-to, multiple-most}
 
 -- the multiple of the n numbers behind m / 2

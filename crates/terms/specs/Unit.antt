@@ -1,7 +1,7 @@
 -- What the terms of a bus are multiples of.
 -- Definitions only. Assumes nothing.
 use Prim.Native.Nat.{ℕ, _+_, _*_, _/_}
-use Rattle.network.specs.Limits.{maxDegree}
+use Rattle.tables.specs.Limits.{maxDegree}
 
 -- how many degrees a bus may have
 abbrev pub degrees : ℕ

@@ -3,8 +3,8 @@ use native.Mathlib.Omega.{arith}
 use mathlib.Core.Path.{sym}
 use borrow.Author.Tests.{le-leb}
 use Rattle.lists.specs.Tests.{fails}
-use Rattle.network.specs.Holds.{within}
-use Rattle.network.specs.Facts.{within-facts}
+use Rattle.tables.specs.Holds.{within}
+use Rattle.tables.specs.Facts.{within-facts}
 use Rattle.file.proofs.fair_need.Statement.{statement}
 use Rattle.file.proofs.fair_need.Tie as tie
 

@@ -8,8 +8,8 @@ use Rattle.lists.specs.Lists.{at}
 use Rattle.lists.specs.Tests.{fails, passed, failed, never-both}
 use borrow.Author.Count.{below-more}
 use native.Mathlib.Nat.{not-suc-le-zero}
-use Rattle.network.specs.Limits.{maxNeed}
-use Rattle.network.specs.Facts.{within-facts, within-test, fair-facts, fair-test}
+use Rattle.tables.specs.Limits.{maxNeed}
+use Rattle.tables.specs.Facts.{within-facts, within-test, fair-facts, fair-test}
 use Rattle.file.proofs.fair_needs.Statement.{statement}
 use Rattle.file.proofs.fair_needs.Tie as tie
 

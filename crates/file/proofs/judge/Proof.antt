@@ -6,7 +6,7 @@ use mathlib.Core.List.{List}
 use mathlib.Core.Path.{_≡_, sym, ap, _∙_}
 use Prim.Native.Nat.{ℕ}
 use lib.ListN.{drop}
-use Rattle.network.specs.Holds.{fairNeeds}
+use Rattle.tables.specs.Holds.{fairNeeds}
 use Rattle.file.specs.Bytes.{needBytes, lineCount}
 use Rattle.file.specs.Sections.{sectionCauses}
 use Rattle.file.proofs.Judging.{Left, all-left, lines-read, accepted, pass, stop, cut, reaches, longer, all-read, inside, under, over}

@@ -7,7 +7,7 @@ use mathlib.Core.Path.{_≡_, sym, ap, _∙_}
 use Prim.Native.Nat.{_-_, _≤_, _<_}
 use Rattle.lists.specs.Loops.{by-end, anyBelow-start, anyBelow-by, anyBelow-more}
 use Rattle.lists.specs.Tests.{passed, failed}
-use Rattle.network.specs.Limits.{maxBuses}
+use Rattle.tables.specs.Limits.{maxBuses}
 use Rattle.insertion.specs.declared.Inserted.the-variants.{Added}
 use Rattle.rows.specs.Held.{RowsAfter}
 use Rattle.rows.specs.HeldRows.{was-added, must-have}

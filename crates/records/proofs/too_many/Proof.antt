@@ -8,7 +8,7 @@ use mathlib.Core.Path.{sym}
 use Prim.Native.Nat.{ℕ, _-_, _≤_, _<_}
 use Rattle.lists.specs.Lists.{at}
 use Rattle.lists.specs.Loops.{anyBelow-by, anyBelow-fails}
-use Rattle.network.specs.Limits.{maxDegree}
+use Rattle.tables.specs.Limits.{maxDegree}
 use Rattle.records.proofs.too_many.Statement.{statement}
 use Rattle.records.proofs.too_many.Tie as tie
 

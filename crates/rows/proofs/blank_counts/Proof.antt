@@ -2,7 +2,7 @@
 use Prim.Native.Nat.{ℕ}
 use lib.ListN.{length-replicate}
 use Rattle.lists.specs.Places.{at-zeros}
-use Rattle.network.specs.Limits.{maxBuses}
+use Rattle.tables.specs.Limits.{maxBuses}
 use Rattle.rows.proofs.blank_counts.Statement.{statement}
 use Rattle.rows.proofs.blank_counts.Tie as tie
 

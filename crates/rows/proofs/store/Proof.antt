@@ -9,9 +9,9 @@ use Rattle.lists.specs.Lists.{at, put}
 use Rattle.lists.specs.Below.{joinBelow, mapBelow}
 use Rattle.lists.specs.Range.{sumBelow-le, sumBelow-const, length-mapBelow, mapBelow-same}
 use Rattle.lists.specs.Writes.{stored-length, stored-list}
-use Rattle.network.specs.Limits.{maxDegree}
-use Rattle.network.specs.Layout.{laid}
-use Rattle.network.specs.Laid.{length-laid}
+use Rattle.tables.specs.Limits.{maxDegree}
+use Rattle.tables.specs.Layout.{laid}
+use Rattle.tables.specs.Laid.{length-laid}
 use Rattle.rows.specs.Held.{held}
 use Rattle.rows.specs.HeldRows.{held-sum}
 use Rattle.rows.proofs.store.Statement.{statement}

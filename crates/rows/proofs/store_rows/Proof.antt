@@ -10,7 +10,7 @@ use Rattle.lists.specs.Below.{joinBelow}
 use Rattle.lists.specs.Loops.{by-end, sumBelow-next, joinBelow-next}
 use Rattle.lists.specs.Range.{length-joinBelow-le}
 use Rattle.lists.specs.Writes.{put-none, stored-length, stored-list}
-use Rattle.network.specs.Limits.{maxBuses, maxDegree}
+use Rattle.tables.specs.Limits.{maxBuses, maxDegree}
 use Rattle.rows.specs.Held.{held}
 use Rattle.rows.specs.HeldRows.{held-part, held-length, held-sum}
 use Rattle.rows.proofs.store_rows.Statement.{statement}

@@ -5,7 +5,7 @@ use mathlib.Core.Path.{_≡_}
 use Prim.Native.Nat.{_-_, _≤_, _<_}
 use lib.ListN.{length}
 use Rattle.lists.specs.Lists.{at}
-use Rattle.network.specs.Layout.{size, row}
+use Rattle.tables.specs.Layout.{size, row}
 use Rattle.scorer.proofs.Summing.{summed, most, rest-fits, sum-start, sum-next, sum-fits, sum-end, neighbour-in}
 use Rattle.scorer.proofs.gathered.Statement.{statement}
 use Rattle.scorer.proofs.gathered.Tie as tie

@@ -4,7 +4,7 @@ use native.Mathlib.Omega.{arith}
 use mathlib.Core.Path.{_≡_}
 use Prim.Native.Nat.{_-_, _≤_}
 use lib.ListN.{length}
-use Rattle.network.specs.Layout.{row}
+use Rattle.tables.specs.Layout.{row}
 use Rattle.scorer.proofs.Summing.{summed, rest-fits, sum-start, sum-next, sum-fits, sum-end, neighbour-in}
 use Rattle.scorer.proofs.numerator.Statement.{statement}
 use Rattle.scorer.proofs.numerator.Tie as tie

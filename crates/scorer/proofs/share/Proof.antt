@@ -6,9 +6,9 @@ use mathlib.Core.Path.{_≡_, sym, ap₂, _∙_}
 use Prim.Native.Nat.{_≤_}
 use Rattle.lists.specs.Tests.{passed, failed}
 use Rattle.refusals.specs.Outcomes.{gives}
-use Rattle.network.specs.Holds.{holds}
-use Rattle.network.specs.Facts.{holds-facts}
-use Rattle.network.specs.Calls.{no-network, no-bus, given}
+use Rattle.tables.specs.Holds.{holds}
+use Rattle.tables.specs.Facts.{holds-facts}
+use Rattle.tables.specs.Calls.{no-network, no-bus, given}
 use Rattle.scorer.proofs.Promised.{share-promised}
 use Rattle.scorer.proofs.share.Statement.{statement}
 use Rattle.scorer.proofs.share.Tie as tie

@@ -4,8 +4,8 @@ use native.Mathlib.Omega.{arith}
 use mathlib.Core.Bool.{true}
 use mathlib.Core.Path.{_≡_}
 use Rattle.lists.specs.Tests.{passed, failed}
-use Rattle.network.specs.Holds.{holds}
-use Rattle.network.specs.Facts.{holds-facts}
+use Rattle.tables.specs.Holds.{holds}
+use Rattle.tables.specs.Facts.{holds-facts}
 use Rattle.scorer.proofs.Promised.{none-held, few-lent, stored}
 use Rattle.scorer.proofs.shares.Statement.{statement}
 use Rattle.scorer.proofs.shares.Tie as tie

@@ -10,7 +10,7 @@ use Rattle.lists.specs.Below.{joinBelow, mapBelow}
 use Rattle.lists.specs.Loops.{by-end, mapBelow-next}
 use Rattle.lists.specs.Range.{length-mapBelow}
 use Rattle.lists.specs.Writes.{put-none, stored-length, stored-entry}
-use Rattle.network.specs.Layout.{size}
+use Rattle.tables.specs.Layout.{size}
 use Rattle.formula.specs.Formula.{numerator}
 use Rattle.scorer.proofs.store.Statement.{statement}
 use Rattle.scorer.proofs.store.Tie as tie

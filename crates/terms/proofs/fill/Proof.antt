@@ -6,8 +6,8 @@ use Prim.Native.Nat.{_-_, _≤_, _<_}
 use lib.ListN.{length, length-set}
 use Rattle.lists.specs.Lists.{Tabled}
 use Rattle.lists.specs.Loops.{by-end, tabled-next}
-use Rattle.network.specs.Limits.{maxBuses}
-use Rattle.network.specs.Layout.{size}
+use Rattle.tables.specs.Limits.{maxBuses}
+use Rattle.tables.specs.Layout.{size}
 use Rattle.formula.specs.Formula.{neighbourOf}
 use Rattle.terms.proofs.fill.Statement.{statement}
 use Rattle.terms.proofs.fill.Tie as tie

@@ -7,7 +7,7 @@ use Prim.Native.Nat.{_-_, _≤_}
 use lib.ListN.{length}
 use Rattle.lists.specs.Below.{largestBelow}
 use Rattle.lists.specs.Loops.{by-end}
-use Rattle.network.specs.Layout.{size, degree}
+use Rattle.tables.specs.Layout.{size, degree}
 use Rattle.formula.specs.Formula.{largestDegree}
 use Rattle.terms.proofs.Turns.{larger, no-larger}
 use Rattle.terms.proofs.largest_degree.Statement.{statement}

@@ -4,8 +4,8 @@ use native.Mathlib.Omega.{arith}
 use mathlib.Core.Path.{_≡_, ap, _∙_}
 use lib.ListN.{length, getD}
 use Rattle.lists.specs.Lists.{at}
-use Rattle.network.specs.Layout.{degree, need}
-use Rattle.network.specs.Rows.{length-needs}
+use Rattle.tables.specs.Layout.{degree, need}
+use Rattle.tables.specs.Rows.{length-needs}
 use Rattle.formula.specs.Formula.{denominator}
 use Rattle.terms.specs.Unit.{unit}
 use Rattle.terms.proofs.Turns.{degree-read, gives-none, gives-some, some-fits}

@@ -5,9 +5,9 @@ use mathlib.Core.Path.{sym, ap, _∙_}
 use Prim.Native.Nat.{ℕ}
 use lib.ListN.{length}
 use Rattle.lists.specs.Tests.{passed, failed}
-use Rattle.network.specs.Facts.{holds-facts}
-use Rattle.network.specs.Layout.{size}
-use Rattle.network.specs.Calls.{no-network, no-bus, given}
+use Rattle.tables.specs.Facts.{holds-facts}
+use Rattle.tables.specs.Layout.{size}
+use Rattle.tables.specs.Calls.{no-network, no-bus, given}
 use Rattle.refusals.specs.Outcomes.{gives}
 use mathlib.Core.List.{List}
 use Rattle.network.proofs.Network.degree.Statement.{statement}

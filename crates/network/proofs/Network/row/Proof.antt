@@ -3,9 +3,9 @@ use borrow.Author.Needs.{needs}
 use native.Mathlib.Omega.{arith}
 use mathlib.Core.Path.{sym, ap, _∙_}
 use Rattle.lists.specs.Tests.{passed, failed}
-use Rattle.network.specs.Facts.{holds-facts}
-use Rattle.network.specs.Layout.{size}
-use Rattle.network.specs.Calls.{no-network, no-bus, given}
+use Rattle.tables.specs.Facts.{holds-facts}
+use Rattle.tables.specs.Layout.{size}
+use Rattle.tables.specs.Calls.{no-network, no-bus, given}
 use Rattle.refusals.specs.Outcomes.{valuesOr}
 use mathlib.Core.List.{[]}
 use Rattle.network.proofs.Network.row.Statement.{statement}

@@ -6,10 +6,10 @@ use Prim.Native.Nat.{ℕ, _-_, _≤_, _<_}
 use lib.ListN.{length, getD}
 use Rattle.lists.specs.Lists.{at}
 use Rattle.lists.specs.Tests.{passed, failed}
-use Rattle.network.specs.Limits.{maxBuses, maxDegree}
-use Rattle.network.specs.Rows.{row-lies, row-few}
-use Rattle.network.specs.Holds.{TidyRow, Spans}
-use Rattle.network.specs.Layout.{rowAt}
+use Rattle.tables.specs.Limits.{maxBuses, maxDegree}
+use Rattle.tables.specs.Rows.{row-lies, row-few}
+use Rattle.tables.specs.Holds.{TidyRow, Spans}
+use Rattle.tables.specs.Layout.{rowAt}
 use mathlib.Core.Bool.{true, true≢false}
 use mathlib.Core.List.{List}
 use Rattle.network.specs.Cursors.{isAt}

@@ -8,11 +8,11 @@ use Rattle.lists.specs.Lists.{_∈_}
 use Rattle.lists.specs.Tests.{fails}
 use borrow.Author.Count.{below-more}
 use native.Mathlib.Nat.{not-suc-le-zero}
-use Rattle.network.specs.Limits.{maxBuses}
-use Rattle.network.specs.Facts.{mirrored-facts, mirrored-test}
-use Rattle.network.specs.Rows.{row-lies}
-use Rattle.network.specs.Holds.{Mirrored}
-use Rattle.network.specs.Layout.{rowAt}
+use Rattle.tables.specs.Limits.{maxBuses}
+use Rattle.tables.specs.Facts.{mirrored-facts, mirrored-test}
+use Rattle.tables.specs.Rows.{row-lies}
+use Rattle.tables.specs.Holds.{Mirrored}
+use Rattle.tables.specs.Layout.{rowAt}
 use mathlib.Core.Bool.{Bool}
 use mathlib.Core.List.{List}
 use Rattle.network.specs.Cursors.{Matched}

@@ -2,7 +2,7 @@
 use borrow.Author.Needs.{needs}
 use mathlib.Core.Path.{sym, _∙_}
 use Rattle.lists.specs.Tests.{fails, passed, failed, never-both}
-use Rattle.network.specs.Facts.{steps-facts, steps-test, rows-facts, rows-read}
+use Rattle.tables.specs.Facts.{steps-facts, steps-test, rows-facts, rows-read}
 use Rattle.network.proofs.rows.sound_rows.Statement.{statement}
 use Rattle.network.proofs.rows.sound_rows.Tie as tie
 

@@ -6,8 +6,8 @@ use Prim.Native.Nat.{_-_, _≤_}
 use Rattle.lists.specs.Tests.{fails}
 use borrow.Author.Count.{below-more}
 use native.Mathlib.Nat.{not-suc-le-zero}
-use Rattle.network.specs.Facts.{steps-facts, steps-test}
-use Rattle.network.specs.Holds.{Steps}
+use Rattle.tables.specs.Facts.{steps-facts, steps-test}
+use Rattle.tables.specs.Holds.{Steps}
 use Rattle.network.proofs.rows.spans.Statement.{statement}
 use Rattle.network.proofs.rows.spans.Tie as tie
 

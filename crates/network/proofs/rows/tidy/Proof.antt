@@ -8,8 +8,8 @@ use Rattle.lists.specs.Lists.{at}
 use Rattle.lists.specs.Tests.{fails}
 use borrow.Author.Count.{below-more}
 use native.Mathlib.Nat.{not-suc-le-zero}
-use Rattle.network.specs.Facts.{tidy-facts, tidy-test}
-use Rattle.network.specs.Holds.{TidyRow}
+use Rattle.tables.specs.Facts.{tidy-facts, tidy-test}
+use Rattle.tables.specs.Holds.{TidyRow}
 use mathlib.Core.List.{List}
 use mathlib.Core.Logic.{_⊎_, inl, inr, ⊎-elim}
 use Rattle.network.proofs.rows.tidy.Statement.{statement}

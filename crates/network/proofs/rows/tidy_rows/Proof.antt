@@ -3,9 +3,9 @@ use borrow.Author.Needs.{needs}
 use mathlib.Core.Path.{_≡_, sym, ap, _∙_}
 use Prim.Native.Nat.{_-_, _≤_}
 use Rattle.lists.specs.Tests.{passed, failed}
-use Rattle.network.specs.Rows.{row-lies}
-use Rattle.network.specs.Holds.{tidyRow, tidyRows}
-use Rattle.network.specs.Layout.{rowAt}
+use Rattle.tables.specs.Rows.{row-lies}
+use Rattle.tables.specs.Holds.{tidyRow, tidyRows}
+use Rattle.tables.specs.Layout.{rowAt}
 use mathlib.Core.Bool.{true}
 use Rattle.lists.specs.Loops.{allBelow-start, allBelow-more, allBelow-fails, allBelow-done}
 use Rattle.lists.specs.Below.{allBelow}

@@ -3,8 +3,8 @@ use borrow.Author.Needs.{needs}
 use native.Mathlib.Omega.{arith}
 use mathlib.Core.Path.{sym}
 use Rattle.lists.specs.Tests.{fails}
-use Rattle.network.specs.Facts.{complete-facts, complete-read}
-use Rattle.network.specs.Layout.{size}
+use Rattle.tables.specs.Facts.{complete-facts, complete-read}
+use Rattle.tables.specs.Layout.{size}
 use Rattle.network.proofs.table.complete.Statement.{statement}
 use Rattle.network.proofs.table.complete.Tie as tie
 

@@ -8,8 +8,8 @@ use Rattle.lists.specs.Lists.{at}
 use Rattle.lists.specs.Tests.{fails}
 use borrow.Author.Count.{below-more}
 use native.Mathlib.Nat.{not-suc-le-zero}
-use Rattle.network.specs.Limits.{maxNeed}
-use Rattle.network.specs.Facts.{fair-facts, fair-test}
+use Rattle.tables.specs.Limits.{maxNeed}
+use Rattle.tables.specs.Facts.{fair-facts, fair-test}
 use Rattle.network.proofs.table.fair.Statement.{statement}
 use Rattle.network.proofs.table.fair.Tie as tie
 

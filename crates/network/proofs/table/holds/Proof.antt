@@ -3,8 +3,8 @@ use borrow.Author.Needs.{needs}
 use native.Mathlib.Omega.{arith}
 use mathlib.Core.Path.{sym, ap, _∙_}
 use Rattle.lists.specs.Tests.{fails, passed, failed, never-both}
-use Rattle.network.specs.Facts.{fair-test, complete-facts, complete-test, holds-facts, holds-read}
-use Rattle.network.specs.Holds.{fairNeeds}
+use Rattle.tables.specs.Facts.{fair-test, complete-facts, complete-test, holds-facts, holds-read}
+use Rattle.tables.specs.Holds.{fairNeeds}
 use Rattle.network.proofs.table.holds.Statement.{statement}
 use Rattle.network.proofs.table.holds.Tie as tie
 

@@ -1,7 +1,7 @@
 -- `network::table::lines` meets its contract. Assumes nothing.
 use borrow.Author.Needs.{needs}
-use Rattle.network.specs.Layout.{links}
-use Rattle.network.specs.Lines.{half}
+use Rattle.tables.specs.Layout.{links}
+use Rattle.tables.specs.Lines.{half}
 use Rattle.network.proofs.table.lines.Statement.{statement}
 use Rattle.network.proofs.table.lines.Tie as tie
 

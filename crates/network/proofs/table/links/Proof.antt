@@ -1,7 +1,7 @@
 -- `network::table::links` meets its contract. Assumes nothing.
 use borrow.Author.Needs.{needs}
 use native.Mathlib.Omega.{arith}
-use Rattle.network.specs.Rows.{last-read, links-read}
+use Rattle.tables.specs.Rows.{last-read, links-read}
 use Rattle.network.proofs.table.links.Statement.{statement}
 use Rattle.network.proofs.table.links.Tie as tie
 

@@ -1,6 +1,6 @@
 -- `network::table::needs` meets its contract. Assumes nothing.
 use borrow.Author.Needs.{needs}
-use Rattle.network.specs.Rows.{needs-read}
+use Rattle.tables.specs.Rows.{needs-read}
 use Rattle.network.proofs.table.needs.Statement.{statement}
 use Rattle.network.proofs.table.needs.Tie as tie
 

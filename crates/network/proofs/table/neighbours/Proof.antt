@@ -1,7 +1,7 @@
 -- `network::table::neighbours` meets its contract. Assumes nothing.
 use borrow.Author.Needs.{needs}
 use mathlib.Core.Path.{_∙_}
-use Rattle.network.specs.Rows.{row-lies, row-in}
+use Rattle.tables.specs.Rows.{row-lies, row-in}
 use Rattle.network.proofs.table.neighbours.Statement.{statement}
 use Rattle.network.proofs.table.neighbours.Tie as tie
 

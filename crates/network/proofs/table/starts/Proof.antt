@@ -1,6 +1,6 @@
 -- `network::table::starts` meets its contract. Assumes nothing.
 use borrow.Author.Needs.{needs}
-use Rattle.network.specs.Rows.{starts-read}
+use Rattle.tables.specs.Rows.{starts-read}
 use Rattle.network.proofs.table.starts.Statement.{statement}
 use Rattle.network.proofs.table.starts.Tie as tie
 

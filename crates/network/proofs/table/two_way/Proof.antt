@@ -2,7 +2,7 @@
 use borrow.Author.Needs.{needs}
 use native.Mathlib.Omega.{arith}
 use Rattle.lists.specs.Tests.{passed, failed}
-use Rattle.network.specs.Facts.{rows-facts, room-read, two-way-fails, two-way-read}
+use Rattle.tables.specs.Facts.{rows-facts, room-read, two-way-fails, two-way-read}
 use Rattle.network.proofs.table.two_way.Statement.{statement}
 use Rattle.network.proofs.table.two_way.Tie as tie
 

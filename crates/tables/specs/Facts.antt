@@ -12,10 +12,10 @@ use Rattle.lists.specs.Lists.{has, at}
 use Rattle.lists.specs.Below.{allBelow}
 use Rattle.lists.specs.Tests.{and-both, and-left, and-right, and-fails-left}
 use Rattle.lists.specs.Loops.{allBelow-at, allBelow-by}
-use Rattle.network.specs.Limits.{maxBuses, maxDegree, maxNeed}
-use Rattle.network.specs.Layout.{rowAt, size, needs, starts, entries, links, startsAt}
-use Rattle.network.specs.Rows.{last-read, room}
-use Rattle.network.specs.Holds.{within, agree, complete, fairNeeds, neverFall, shortRows, tidy, tidyRow, tidyRows, soundRows, mirrored, twoWay, holds, Complete, FairNeeds, Steps, TidyRow, SoundRows, Mirrored, Holds}
+use Rattle.tables.specs.Limits.{maxBuses, maxDegree, maxNeed}
+use Rattle.tables.specs.Layout.{rowAt, size, needs, starts, entries, links, startsAt}
+use Rattle.tables.specs.Rows.{last-read, room}
+use Rattle.tables.specs.Holds.{within, agree, complete, fairNeeds, neverFall, shortRows, tidy, tidyRow, tidyRows, soundRows, mirrored, twoWay, holds, Complete, FairNeeds, Steps, TidyRow, SoundRows, Mirrored, Holds}
 
 pub within-test : (a b x : ℕ) → a ≤ x → x ≤ b → within a b x ≡ true
 unfolding within

@@ -6,9 +6,9 @@ use Prim.Native.Nat.{ℕ, _≤_, _<_}
 use native.Mathlib.Omega.{arith}
 use borrow.Author.Tests.{le-ltb, lt-ltb}
 use Rattle.refusals.specs.Outcomes.{gives, refuses, outcome}
-use Rattle.network.specs.Layout.{size}
-use Rattle.network.specs.Holds.{holds}
-use Rattle.network.specs.Answers.{busCauses}
+use Rattle.tables.specs.Layout.{size}
+use Rattle.tables.specs.Holds.{holds}
+use Rattle.tables.specs.Answers.{busCauses}
 
 module _ {A : Type 0} (t : List ℕ) (bus : ℕ) (values : A) where
   pub no-network : holds t ≡ false → outcome (busCauses t bus) values ≡ refuses 11

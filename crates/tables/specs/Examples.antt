@@ -7,10 +7,10 @@ use lib.ListN.{getD, replicate}
 use Rattle.refusals.specs.Outcomes.{gives, refuses}
 use Rattle.lists.specs.Lists.{at}
 use Rattle.lists.specs.Below.{allBelow, sumBelow, joinBelow, mapBelow}
-use Rattle.network.specs.Limits.{maxLines, maxEntries, maxBytes}
-use Rattle.network.specs.Layout.{rowAt, laid, needs, starts, links, row, lines, tableOf}
-use Rattle.network.specs.Holds.{within, complete, fairNeeds, neverFall, shortRows, tidy, tidyRow, tidyRows, soundRows, mirrored, twoWay, holds}
-use Rattle.network.specs.Answers.{degreeOutcome, rowOutcome}
+use Rattle.tables.specs.Limits.{maxLines, maxEntries, maxBytes}
+use Rattle.tables.specs.Layout.{rowAt, laid, needs, starts, links, row, lines, tableOf}
+use Rattle.tables.specs.Holds.{within, complete, fairNeeds, neverFall, shortRows, tidy, tidyRow, tidyRows, soundRows, mirrored, twoWay, holds}
+use Rattle.tables.specs.Answers.{degreeOutcome, rowOutcome}
 
 most-lines : maxLines ≡ 5888
 most-lines = refl

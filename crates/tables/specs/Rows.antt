@@ -9,9 +9,9 @@ use native.Mathlib.Omega.{arith}
 use lib.ListN.{length}
 use Rattle.lists.specs.Lists.{_∈_, at, part, Once}
 use Rattle.lists.specs.Places.{length-part, at-part, ascending-once, at-in}
-use Rattle.network.specs.Limits.{maxDegree}
-use Rattle.network.specs.Layout.{rowAt, size, needs, starts, last, entries, links, startsAt, row}
-use Rattle.network.specs.Holds.{Complete, Spans, TidyRow}
+use Rattle.tables.specs.Limits.{maxDegree}
+use Rattle.tables.specs.Layout.{rowAt, size, needs, starts, last, entries, links, startsAt, row}
+use Rattle.tables.specs.Holds.{Complete, Spans, TidyRow}
 
 -- a row between the starts a and e, as code reads it
 pub row-read : (s l : List ℕ) (i : ℕ) {a e : ℕ} → a ≡ at s i → e ≡ at s (i + 1) → part a e l ≡ rowAt s l i

@@ -9,9 +9,9 @@ use Rattle.lists.specs.Below.{joinBelow, mapBelow}
 use Rattle.lists.specs.Places.{at-append, at-behind, part-between}
 use Rattle.lists.specs.Loops.{joinBelow-next}
 use Rattle.lists.specs.Range.{length-mapBelow, mapBelow-at, joinBelow-at, mapBelow-same, joinBelow-same}
-use Rattle.network.specs.Limits.{maxBuses, maxDegree}
-use Rattle.network.specs.Layout.{rowAt, laid, size, needs, starts, last, links, startsAt, row, tableOf}
-use Rattle.network.specs.Holds.{FairNeeds, TidyRow, SoundRows, Holds}
+use Rattle.tables.specs.Limits.{maxBuses, maxDegree}
+use Rattle.tables.specs.Layout.{rowAt, laid, size, needs, starts, last, links, startsAt, row, tableOf}
+use Rattle.tables.specs.Holds.{FairNeeds, TidyRow, SoundRows, Holds}
 
 module _ (n : ℕ) (rows : ℕ → List ℕ) where
   abbrev firsts : List ℕ

@@ -10,10 +10,10 @@ use Rattle.lists.specs.Below.{sumBelow, countBelow}
 use Rattle.lists.specs.Tests.{fails}
 use Rattle.lists.specs.Counts.{has-in}
 use Rattle.lists.specs.Range.{sumBelow-same, sumBelow-mirror, length-members}
-use Rattle.network.specs.Limits.{maxDegree, maxLines, maxEntries}
-use Rattle.network.specs.Layout.{rowAt, size, last, entries, links, startsAt, row, lines}
-use Rattle.network.specs.Holds.{SoundRows, Mirrored, Holds}
-use Rattle.network.specs.Rows.{row-length, tidy-once, tidy-below, tidy-others, last-start, length-links}
+use Rattle.tables.specs.Limits.{maxDegree, maxLines, maxEntries}
+use Rattle.tables.specs.Layout.{rowAt, size, last, entries, links, startsAt, row, lines}
+use Rattle.tables.specs.Holds.{SoundRows, Mirrored, Holds}
+use Rattle.tables.specs.Rows.{row-length, tidy-once, tidy-below, tidy-others, last-start, length-links}
 
 module _ (n : ℕ) (s l : List ℕ) (w : SoundRows n s l) where
   -- a row starts where the rows before it end

@@ -8,8 +8,8 @@ use lib.Dec.{leb, ltb, eqb}
 use lib.ListN.{length}
 use Rattle.lists.specs.Lists.{has, at, Ascending}
 use Rattle.lists.specs.Below.{allBelow}
-use Rattle.network.specs.Limits.{maxBuses, maxDegree, maxNeed}
-use Rattle.network.specs.Layout.{rowAt, size, needs, starts, entries, links, startsAt}
+use Rattle.tables.specs.Limits.{maxBuses, maxDegree, maxNeed}
+use Rattle.tables.specs.Layout.{rowAt, size, needs, starts, entries, links, startsAt}
 
 -- x is from a to b
 unfoldable pub within : ℕ → ℕ → ℕ → Bool

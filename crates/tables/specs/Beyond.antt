@@ -1,16 +1,17 @@
 -- Entries beyond the table never matter: slices that begin with the same table are judged alike and give the same answers.
 -- Assumes nothing.
 use mathlib.Core.List.{List, _++_}
-use mathlib.Core.Path.{_≡_, sym, ap, _∙_}
+use mathlib.Core.Path.{_≡_, refl, sym, ap, _∙_}
 use Prim.Native.Nat.{ℕ, _+_, _≤_}
 use native.Mathlib.Omega.{arith}
 use borrow.Author.Tests.{le-leb}
 use lib.ListN.{length, length-append}
 use Rattle.lists.specs.Lists.{at}
 use Rattle.lists.specs.Places.{at-append, part-append}
-use Rattle.network.specs.Layout.{size, needs, starts, last, entries, links, startsAt, row}
-use Rattle.network.specs.Holds.{complete, twoWay, holds}
-use Rattle.network.specs.Answers.{Alike}
+use Rattle.tables.specs.Layout.{size, needs, starts, last, entries, links, startsAt, row}
+use Rattle.tables.specs.Rows.{needs-read, starts-read}
+use Rattle.tables.specs.Holds.{complete, twoWay, holds}
+use Rattle.tables.specs.Answers.{Alike}
 
 -- the sections of a table whose row starts begin at h, in a slice that goes on with x
 module _ (h : ℕ) (t x : List ℕ) (w : entries h t ≤ length t) where
@@ -21,8 +22,7 @@ module _ (h : ℕ) (t x : List ℕ) (w : entries h t ≤ length t) where
   last-on = ap (λ n. at (t ++ x) (h + n)) size-on ∙ at-append t x (h + size t) (omega arith)
 
   starts-on : starts h (t ++ x) ≡ starts h t
-  unfolding starts
-  starts-on = rw size-on (part-append h (h + size t + 1) t x (omega arith))
+  starts-on = sym (starts-read h (t ++ x) (sym size-on)) ∙ part-append h (h + size t + 1) t x (omega arith) ∙ starts-read h t refl
 
   links-on : links h (t ++ x) ≡ links h t
   unfolding links
@@ -40,8 +40,7 @@ module _ (h : ℕ) (t x : List ℕ) (w : entries h t ≤ length t) where
 -- and those of a network's table
 module _ (t x : List ℕ) (w : entries (startsAt t) t ≤ length t) where
   needs-on : needs (t ++ x) ≡ needs t
-  unfolding needs
-  needs-on = rw (size-on (startsAt t) t x w) (part-append 1 (1 + size t) t x (omega arith))
+  needs-on = sym (needs-read (t ++ x) (sym (size-on (startsAt t) t x w))) ∙ part-append 1 (1 + size t) t x (omega arith) ∙ needs-read t refl
 
   holds-on : holds (t ++ x) ≡ holds t
   unfolding holds
@@ -58,7 +57,7 @@ module _ (t x : List ℕ) (w : entries (startsAt t) t ≤ length t) where
     needed = needs-on;
     rows = row-on;
     degreeAnswers = λ bus. rw (holds-on, size-on (startsAt t) t x w, row-on bus);
-    rowAnswers = λ bus. rw (holds-on, size-on (startsAt t) t x w, row-on bus);
+    rowAnswers = λ bus. simp (holds-on, size-on (startsAt t) t x w, row-on bus);
   }
 
 -- whatever follows a table in the slice, x or y
