@@ -97,7 +97,10 @@ lcmAll-part l k h = lcmAll-least l (lcmAll k) (λ x i. lcmAll-multiple k x (h x 
 -- one number more, as a loop folds it
 pub lcmAll-next : (f : ℕ → ℕ) (n : ℕ) → lcmOf (f n) (lcmAll (mapBelow n f)) ≡ lcmAll (mapBelow (n + 1) f)
 unfolding lcmAll
-lcmAll-next f n = dvd-antisymm (lcmAll-part (f n ∷ mapBelow n f) (mapBelow (n + 1) f) (λ x i. omega (arith, same x))) (lcmAll-part (mapBelow (n + 1) f) (f n ∷ mapBelow n f) (λ x i. omega (arith, same x)))
+lcmAll-next f n =
+    dvd-antisymm
+    (lcmAll-part (f n ∷ mapBelow n f) (mapBelow (n + 1) f) (λ x i. omega (arith, same x)))
+    (lcmAll-part (mapBelow (n + 1) f) (f n ∷ mapBelow n f) (λ x i. omega (arith, same x)))
   where
     same : (x : ℕ) → count x (mapBelow (n + 1) f) ≡ count x (mapBelow n f) + count x (f n ∷ [])
     same x = ap (count x) (mapBelow-next n f) ∙ count-append x (mapBelow n f) (f n ∷ [])

@@ -69,8 +69,8 @@ pub fn cancel(numerator: u64, denominator: u64) -> Cancelled
     Cancelled::Pair(numerator / g, denominator / g)
 }
 
-// The least common multiple, where it fits. A step of Euclid's rule makes a small number quick to fold into a large one;
-// most such pairs share no factor, and then nothing is divided.
+// The least common multiple, where it fits; no step exceeds it. A step of Euclid's rule makes a small number quick to fold into a large one.
+// Most such pairs share no factor, and then nothing is divided.
 pub fn lcm(a: u64, b: u64) -> u64
     requires { ⌜ lcmOf a b < 2 ^ 64 ⌝ }
     ensures answer { λ r. ⌜ r ≡ lcmOf a b ⌝ }

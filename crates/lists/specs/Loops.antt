@@ -35,10 +35,6 @@ pub anyBelow-start : (p : ℕ → Bool) → anyBelow 0 p ≡ false
 unfolding anyBelow
 anyBelow-start p = refl
 
-pub sumBelow-start : (f : ℕ → ℕ) → sumBelow 0 f ≡ 0
-unfolding sumBelow
-sumBelow-start f = refl
-
 -- ---- a turn
 
 pub allBelow-next : (n : ℕ) (p : ℕ → Bool) → allBelow (n + 1) p ≡ (allBelow n p && p n)

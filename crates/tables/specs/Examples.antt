@@ -8,7 +8,7 @@ use Rattle.refusals.specs.Outcomes.{gives, refuses}
 use Rattle.lists.specs.Lists.{at}
 use Rattle.lists.specs.Below.{allBelow, sumBelow, joinBelow, mapBelow}
 use Rattle.tables.specs.Limits.{maxLines, maxEntries, maxBytes}
-use Rattle.tables.specs.Layout.{rowAt, laid, needs, starts, links, row, lines, tableOf}
+use Rattle.tables.specs.Layout.{rowAt, laid, needs, starts, links, row, need, lines, tableOf}
 use Rattle.tables.specs.Holds.{within, complete, fairNeeds, neverFall, shortRows, tidy, tidyRow, tidyRows, soundRows, mirrored, twoWay, holds}
 use Rattle.tables.specs.Answers.{degreeOutcome, rowOutcome}
 
@@ -81,6 +81,11 @@ star n = suc n ∷ replicate (suc n) 1 ++ (0 ∷ mapBelow (suc n) (λ i. n + i))
 stars : (holds (star 23) ≡ true) × (holds (star 24) ≡ false)
 unfolding star mapBelow joinBelow holds twoWay complete within fairNeeds soundRows neverFall shortRows tidyRows tidyRow tidy mirrored rowAt needs starts links row at allBelow
 stars = (refl, refl)
+
+-- needs 1, 2 and 24 of three buses without lines
+three-needs : mapBelow 3 (need (3 ∷ 1 ∷ 2 ∷ 24 ∷ 0 ∷ 0 ∷ 0 ∷ 0 ∷ [])) ≡ 1 ∷ 2 ∷ 24 ∷ []
+unfolding mapBelow joinBelow needs at
+three-needs = refl
 
 path-lines : lines path ≡ 2
 unfolding path lines sumBelow holds twoWay complete within fairNeeds soundRows neverFall shortRows tidyRows tidyRow tidy mirrored rowAt needs starts links row at allBelow
