@@ -5,7 +5,7 @@ use mathlib.Core.List.{List, [], _∷_, _++_}
 use mathlib.Core.Logic.{_⊎_, ⊎-elim}
 use mathlib.Core.Path.{_≡_, refl, sym, subst, _∙_}
 use Prim.Native.Nat.{ℕ, zero, suc, _+_, _≤_, _<_, max}
-use native.Mathlib.Nat.{not-suc-le-zero, eq-or-lt-of-le, le-of-suc-le-suc}
+use native.Mathlib.Nat.{not-suc-le-zero, eq-or-lt-of-le, le-of-suc-le-suc, max-eq-left, max-eq-right}
 use native.Mathlib.Numerals.{add-one}
 use native.Mathlib.Omega.{arith}
 use borrow.Author.Tests.{eqb-true, eqb-false}
@@ -49,7 +49,7 @@ pub sumBelow-next : (n : ℕ) (f : ℕ → ℕ) → sumBelow (n + 1) f ≡ sumBe
 unfolding sumBelow
 sumBelow-next n f = rw add-one
 
-pub largestBelow-next : (n : ℕ) (f : ℕ → ℕ) → largestBelow (n + 1) f ≡ max (largestBelow n f) (f n)
+largestBelow-next : (n : ℕ) (f : ℕ → ℕ) → largestBelow (n + 1) f ≡ max (largestBelow n f) (f n)
 unfolding largestBelow
 largestBelow-next n f = rw add-one
 
@@ -72,6 +72,14 @@ tabled-next f n l {x} h b e i g =
     ∙ split (eqb i n)
     (λ t. let q : i ≡ n = eqb-true i n t in rw (t, q) e)
     (λ t. let d : i ≡ n → ⊥ = eqb-false i n t in rw t (h i (omega (arith, d))))
+
+-- the next value is larger than those before it, or it is not
+module _ (f : ℕ → ℕ) (i : ℕ) {m k : ℕ} (em : m ≡ largestBelow i f) (ek : k ≡ f i) where
+  pub largestBelow-rises : m < k → k ≡ largestBelow (i + 1) f
+  largestBelow-rises l = sym (largestBelow-next i f ∙ rw (← em, ← ek) (max-eq-right (omega arith)))
+
+  pub largestBelow-stays : k ≤ m → m ≡ largestBelow (i + 1) f
+  largestBelow-stays l = sym (largestBelow-next i f ∙ rw (← em, ← ek) (max-eq-left l))
 
 -- ---- every number passes
 

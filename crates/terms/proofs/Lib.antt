@@ -1,2 +1,2 @@
-pub mod Turns
+pub mod Given
 pub mod Upper

@@ -14,32 +14,36 @@ use Rattle.fraction.specs.Lcm.{lcmAll-multiple, lcmAll-least, lcmAll-next}
 use Rattle.tables.specs.Limits.{maxDegree}
 use Rattle.formula.specs.Denominator.{up-to, of-up-to, multiple-most}
 
--- the multiple of the n numbers behind m / 2
+-- the numbers behind m / 2, from 0 on
+abbrev behind : ℕ → ℕ → ℕ
+behind m i = suc (m / 2 + i)
+
+-- the multiple of the first n of them
 unfoldable pub upper : ℕ → ℕ → ℕ
-upper m n = lcmAll (mapBelow n (λ i. suc (m / 2 + i)))
+upper m n = lcmAll (mapBelow n (behind m))
 
 module _ (m : ℕ) where
   pub upper-start : 1 ≡ upper m (m / 2 - m / 2)
   unfolding upper lcmAll mapBelow joinBelow
   upper-start = let z : m / 2 - m / 2 ≡ 0 = omega arith in rw z
 
-  -- one number more, where n were folded and k is the last
+  -- one number more: those up to k were folded
   pub upper-next : {k l : ℕ} → m / 2 ≤ k → l ≡ upper m (k - m / 2) → lcmOf (k + 1) l ≡ upper m (k + 1 - m / 2)
   unfolding upper
   upper-next {k} {l} h e =
       let a : k + 1 ≡ suc (m / 2 + (k - m / 2)) = omega arith in
       let b : k - m / 2 + 1 ≡ k + 1 - m / 2 = omega arith in
-      ap₂ lcmOf a e ∙ lcmAll-next (λ i. suc (m / 2 + i)) (k - m / 2) ∙ ap (λ n. lcmAll (mapBelow n (λ i. suc (m / 2 + i)))) b
+      ap₂ lcmOf a e ∙ lcmAll-next (behind m) (k - m / 2) ∙ ap (λ n. lcmAll (mapBelow n (behind m))) b
 
   pub upper-most : (n : ℕ) → m / 2 + n ≤ 1 + maxDegree → upper m n ≤ 5354228880
   unfolding upper
-  upper-most n h = multiple-most _ (λ x i. let w = of-mapBelow (λ i. suc (m / 2 + i)) n x i in (omega (arith, w .2), omega (arith, w .1, w .2)))
+  upper-most n h = multiple-most _ (λ x i. let w = of-mapBelow (behind m) n x i in (omega (arith, w .2), omega (arith, w .1, w .2)))
 
   in-upper : (k : ℕ) → m / 2 < k → k ≤ m → k ∣ upper m (m - m / 2)
   unfolding upper
   in-upper k a b =
       let e : suc (m / 2 + (k - m / 2 - 1)) ≡ k = omega arith in
-      lcmAll-multiple _ k (subst (λ x. x ∈ mapBelow (m - m / 2) (λ i. suc (m / 2 + i))) e (in-mapBelow (λ i. suc (m / 2 + i)) (m - m / 2) (omega arith)))
+      lcmAll-multiple _ k (subst (λ x. x ∈ mapBelow (m - m / 2) (behind m)) e (in-mapBelow (behind m) (m - m / 2) (omega arith)))
 
   -- a number up to m divides it: it stands in the upper half, or its double divides it, and so on, n times at most
   all-divide : (n k : ℕ) → 1 ≤ k → k ≤ m → m ≤ n + k → k ∣ upper m (m - m / 2)
@@ -53,5 +57,5 @@ module _ (m : ℕ) where
   unfolding upper
   upper-half =
       dvd-antisymm
-      (lcmAll-least (mapBelow (m - m / 2) (λ i. suc (m / 2 + i))) _ (λ x i. let w = of-mapBelow (λ i. suc (m / 2 + i)) (m - m / 2) x i in lcmAll-multiple (mapBelow m suc) x (up-to m x (omega (arith, w .2)) (omega (arith, w .1, w .2)))))
+      (lcmAll-least (mapBelow (m - m / 2) (behind m)) _ (λ x i. let w = of-mapBelow (behind m) (m - m / 2) x i in lcmAll-multiple (mapBelow m suc) x (up-to m x (omega (arith, w .2)) (omega (arith, w .1, w .2)))))
       (lcmAll-least (mapBelow m suc) _ (λ x i. let w = of-up-to m x i in all-divide m x (w .0) (w .1) (omega arith)))

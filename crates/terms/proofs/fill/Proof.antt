@@ -36,7 +36,7 @@ loop-again : tie.Need-loop-again Inv-loop μ-loop
 loop-again c =
     let v = c .before .before in (
       search needs,
-      length-set (v .loop .terms) (v .loop .bus) _ ∙ v .loop .inv .1,
+      length-set (v .loop .terms) _ _ ∙ v .loop .inv .1,
       tabled-next (neighbourOf _) _ _ (v .loop .inv .2) (omega (arith, few (c .before), v .loop .inv .1)) (c .term .ensures),
     )
 

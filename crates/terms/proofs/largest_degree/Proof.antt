@@ -6,10 +6,9 @@ use mathlib.Core.Path.{_≡_, refl, ap, _∙_}
 use Prim.Native.Nat.{_-_, _≤_}
 use lib.ListN.{length}
 use Rattle.lists.specs.Below.{largestBelow}
-use Rattle.lists.specs.Loops.{by-end}
+use Rattle.lists.specs.Loops.{by-end, largestBelow-rises, largestBelow-stays}
 use Rattle.tables.specs.Layout.{size, degree}
 use Rattle.formula.specs.Formula.{largestDegree}
-use Rattle.terms.proofs.Turns.{larger, no-larger}
 use Rattle.terms.proofs.largest_degree.Statement.{statement}
 use Rattle.terms.proofs.largest_degree.Tie as tie
 
@@ -34,8 +33,8 @@ loop-again c =
     let v = c .before .before .before in
     let e = ap length (c .before .neighbours .ensures) in
     ⊎-elim
-    (λ w. (omega arith, w .1 ∙ larger _ _ (v .loop .inv .1) e (w .0 .taken)))
-    (λ w. (omega arith, w .1 ∙ no-larger _ _ (v .loop .inv .1) e (w .0 .left)))
+    (λ w. (omega arith, w .1 ∙ largestBelow-rises _ _ (v .loop .inv .1) e (w .0 .taken)))
+    (λ w. (omega arith, w .1 ∙ largestBelow-stays _ _ (v .loop .inv .1) e (w .0 .left)))
     (c .if1 .came)
 
 returns : tie.Need-returns Inv-loop μ-loop

@@ -8,7 +8,7 @@ use Rattle.tables.specs.Layout.{degree, need}
 use Rattle.tables.specs.Rows.{length-needs}
 use Rattle.formula.specs.Formula.{denominator}
 use Rattle.terms.specs.Unit.{unit}
-use Rattle.terms.proofs.Turns.{degree-read, gives-none, gives-some, some-fits}
+use Rattle.terms.proofs.Given.{degree-read, gives-none, gives-some, some-fits}
 use Rattle.terms.proofs.term.Statement.{statement}
 use Rattle.terms.proofs.term.Tie as tie
 

@@ -8,7 +8,7 @@ use lib.ListN.{length, length-set}
 use Rattle.lists.specs.Lists.{Tabled}
 use Rattle.lists.specs.Loops.{by-end, tabled-next}
 use Rattle.terms.specs.Unit.{degrees, unit}
-use Rattle.terms.proofs.Turns.{units-start}
+use Rattle.terms.proofs.Given.{units-start}
 use Rattle.terms.proofs.units.Statement.{statement}
 use Rattle.terms.proofs.units.Tie as tie
 
@@ -34,7 +34,7 @@ unfolding unit
 loop-again c = (
   search needs,
   search needs,
-  length-set (c .before .loop .units) (c .before .loop .d) _ ∙ c .before .loop .inv .2,
+  length-set (c .before .loop .units) _ _ ∙ c .before .loop .inv .2,
   tabled-next (unit (c .before .before .args .over)) _ _ (c .before .loop .inv .3) (omega (arith, c .before .loop .inv .2)) refl,
 )
 

@@ -1,14 +1,12 @@
--- How the code comes by the largest degree, the units and the terms. Assumes nothing.
+-- How the code comes by the units and the terms. Assumes nothing.
 use mathlib.Core.List.{List}
 use mathlib.Core.Path.{_≡_, sym, _∙_}
 use Prim.Native.Nat.{ℕ, _+_, _-_, _*_, _≤_, _<_}
-use native.Mathlib.Nat.{div-zero, max-eq-left, max-eq-right}
+use native.Mathlib.Nat.{div-zero}
 use native.Mathlib.Omega.{arith}
 use borrow.Author.Tests.{le-leb, lt-leb}
 use lib.ListN.{replicate}
 use Rattle.lists.specs.Lists.{Tabled}
-use Rattle.lists.specs.Below.{largestBelow}
-use Rattle.lists.specs.Loops.{largestBelow-next}
 use Rattle.lists.specs.Places.{at-zeros}
 use Rattle.game.specs.Game.{neighbourTerm}
 use Rattle.tables.specs.Layout.{size, degree, need}
@@ -17,14 +15,6 @@ use Rattle.formula.specs.Formula.{denominator, neighbourOf}
 use Rattle.formula.specs.Denominator.{degree-few, denominator-most}
 use Rattle.formula.specs.Terms.{neighbour-most}
 use Rattle.terms.specs.Unit.{degrees, unit}
-
--- a turn's value is larger than those before it, or it is not
-module _ (f : ℕ → ℕ) (i : ℕ) {m k : ℕ} (em : m ≡ largestBelow i f) (ek : k ≡ f i) where
-  pub larger : m < k → k ≡ largestBelow (i + 1) f
-  larger l = sym (largestBelow-next i f ∙ rw (← em, ← ek) (max-eq-right (omega arith)))
-
-  pub no-larger : k ≤ m → m ≡ largestBelow (i + 1) f
-  no-larger l = sym (largestBelow-next i f ∙ rw (← em, ← ek) (max-eq-left l))
 
 -- a bus of degree 0 has unit 0
 pub units-start : (L : ℕ) → Tabled 1 (unit L) (replicate degrees 0)
