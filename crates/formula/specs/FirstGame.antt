@@ -29,11 +29,11 @@ neighbour-one d L p h =
     let z : d + 1 - 1 ≡ d = omega arith in
     rw (le-leb 1 d p) (ap (λ n. n * (L / (d * (d + 1)))) z ∙ sym (coarser d L p h) ∙ ap (λ n. L / n) (add-comm d 1))
 
-module _ {t : List ℕ} (w : Holds t) (ones : (u : ℕ) → u < size t → need t u ≡ 1) where
-  -- a neighbour has a neighbour
-  has-degree : (v u : ℕ) → v < size t → u < size t → u ∈ row t v → 0 < degree t u
-  has-degree v u b c m = in-length v (row t u) (has-in v (row t u) (two-way w u v c b ∙ in-has u (row t v) m))
+-- a neighbour has a neighbour
+has-degree : {t : List ℕ} → Holds t → (v u : ℕ) → v < size t → u < size t → u ∈ row t v → 0 < degree t u
+has-degree {t} w v u b c m = in-length v (row t u) (has-in v (row t u) (two-way w u v c b ∙ in-has u (row t v) m))
 
+module _ {t : List ℕ} (w : Holds t) (ones : (u : ℕ) → u < size t → need t u ≡ 1) where
   own-part : (v : ℕ) → v < size t → ownOf t v ≡ denominator t / (1 + degree t v)
   unfolding ownOf
   own-part v b = rw (ones v b) (own-one (degree t v) (denominator t))
@@ -42,10 +42,10 @@ module _ {t : List ℕ} (w : Holds t) (ones : (u : ℕ) → u < size t → need 
   unfolding neighbourOf
   neighbour-part v u b m =
       let c = neighbour-below w v b u m in
-      let p = has-degree v u b c m in
+      let p = has-degree w v u b c m in
       rw (ones u c) (neighbour-one (degree t u) (denominator t) p (degrees-divide t u c p))
 
-  -- a bus without neighbours included
+  -- a bus without neighbours included; all are whole numbers, since each 1 + d divides L
   pub first-game : (v : ℕ) → v < size t → numerator t v ≡ sumBy (λ u. denominator t / (1 + degree t u)) (v ∷ row t v)
   unfolding numerator
   first-game v b = ap₂ _+_ (own-part v b) (sumBy-cong-in (row t v) (λ u m. neighbour-part v u b m))

@@ -21,7 +21,7 @@ use Rattle.formula.specs.Fair.{neighbour-below}
 unfoldable pub summed : List ℕ → ℕ → ℕ → ℕ
 summed t bus k = ownOf t bus + sumBy (neighbourOf t) (take k (row t bus))
 
--- all terms that are due are far from the width
+-- no sum of them is above this, which is far below 2 ^ 64
 abbrev pub most : ℕ
 most = (2 + maxDegree) * 5354228880
 

@@ -67,6 +67,7 @@ fn gathered(table: &[u16], over: u64, terms: &[u64; Network::BUSES], bus: usize)
     sum
 }
 
+// Stores the numerator of each bus at its entry.
 fn store(table: &[u16], over: u64, terms: &[u64; Network::BUSES], numerators: &mut [u64])
     requires { ⌜ Holds (now table) × (size (now table) ≤ length (now numerators)) × (over ≡ denominator (now table)) ⌝ }
     requires { ⌜ Tabled (size (now table)) (neighbourOf (now table)) (now terms) ⌝ }
