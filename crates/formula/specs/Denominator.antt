@@ -24,13 +24,16 @@ up-to m k a b = let q : suc (k - 1) ≡ k = omega arith in subst (λ x. x ∈ ma
 pub of-up-to : (m k : ℕ) → k ∈ mapBelow m suc → (1 ≤ k) × (k ≤ m)
 of-up-to m k i = let w = of-mapBelow suc m k i in (omega (arith, w .2), omega (arith, w .1, w .2))
 
--- the multiple of the largest degree that a bus may have
-top : lcmAll (mapBelow (1 + maxDegree) suc) ≡ 5354228880
+-- the largest L, that of the most lines at a bus
+abbrev pub maxDenominator : ℕ
+maxDenominator = 5354228880
+
+top : lcmAll (mapBelow (1 + maxDegree) suc) ≡ maxDenominator
 unfolding lcmAll lcmOf gcdOf mapBelow joinBelow
 top = refl
 
 -- that of fewer numbers divides it
-pub multiple-most : (l : List ℕ) → ((k : ℕ) → k ∈ l → (1 ≤ k) × (k ≤ 1 + maxDegree)) → lcmAll l ≤ 5354228880
+pub multiple-most : (l : List ℕ) → ((k : ℕ) → k ∈ l → (1 ≤ k) × (k ≤ 1 + maxDegree)) → lcmAll l ≤ maxDenominator
 multiple-most l h =
     le-of-dvd (omega arith)
     (rw top at (lcmAll-part l (mapBelow (1 + maxDegree) suc) (λ k i. up-to (1 + maxDegree) k (h k i .0) (h k i .1))))
@@ -69,6 +72,6 @@ module _ {t : List ℕ} (w : Holds t) where
   unfolding largestDegree
   largest-few = largestBelow-le (degree t) maxDegree (size t) degree-few
 
-  pub denominator-most : denominator t ≤ 5354228880
+  pub denominator-most : denominator t ≤ maxDenominator
   unfolding denominator
   denominator-most = multiple-most _ (λ k i. let w = of-up-to (1 + largestDegree t) k i in (w .0, omega (arith, w .1, largest-few)))

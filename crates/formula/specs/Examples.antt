@@ -1,14 +1,14 @@
 -- Shares of 01's networks, computed. Assumes nothing.
-use mathlib.Core.List.{List, [], _∷_, _++_, map, flatMap}
+use mathlib.Core.List.{List, [], _∷_, map, flatMap}
 use mathlib.Core.Path.{_≡_, refl}
-use Prim.Native.Nat.{ℕ, suc, _+_}
-use lib.ListN.{replicate}
+use Prim.Native.Nat.{ℕ}
 use Rattle.lists.specs.Lists.{sumBy, at}
 use Rattle.lists.specs.Below.{largestBelow, joinBelow, mapBelow, range}
 use Rattle.fraction.specs.Divisors.{gcdOf, lcmOf, lcmAll}
 use Rattle.game.specs.Orders.{orders}
 use Rattle.game.specs.Game.{seen, value, gain, ownTerm, neighbourTerm}
 use Rattle.tables.specs.Layout.{rowAt, size, needs, starts, links, row}
+use Rattle.tables.specs.Examples.{path, star}
 use Rattle.formula.specs.Formula.{largestDegree, denominator, ownOf, neighbourOf, numerator, gameOf}
 
 -- one bus with need k, and no line
@@ -18,10 +18,6 @@ lone k = 1 ∷ k ∷ 0 ∷ 0 ∷ []
 -- two buses, one line
 pair : List ℕ
 pair = 2 ∷ 1 ∷ 1 ∷ 0 ∷ 1 ∷ 2 ∷ 1 ∷ 0 ∷ []
-
--- 01's Path, with need k at bus 1
-unfoldable pub path : ℕ → List ℕ
-path k = 3 ∷ 1 ∷ k ∷ 1 ∷ 0 ∷ 1 ∷ 3 ∷ 4 ∷ 1 ∷ 0 ∷ 2 ∷ 1 ∷ []
 
 -- three buses, a line between any two, needs k
 triangle : ℕ → List ℕ
@@ -65,9 +61,6 @@ unfolding path gain value seen row rowAt needs starts links at mapBelow joinBelo
 by-orders = refl
 
 -- 01's star of 24 buses: L, the centre, a leaf
-star : List ℕ
-star = 24 ∷ replicate 24 1 ++ (0 ∷ mapBelow 24 (λ i. 23 + i)) ++ mapBelow 23 suc ++ replicate 23 0
-
-star-shares : (denominator star ∷ numerator star 0 ∷ numerator star 23 ∷ []) ≡ 5354228880 ∷ 61796724990 ∷ 2900207310 ∷ []
+star-shares : (denominator (star 23) ∷ numerator (star 23) 0 ∷ numerator (star 23) 23 ∷ []) ≡ 5354228880 ∷ 61796724990 ∷ 2900207310 ∷ []
 unfolding star numerator ownOf neighbourOf ownTerm neighbourTerm denominator largestDegree largestBelow lcmAll lcmOf gcdOf mapBelow joinBelow row rowAt needs starts links at
 star-shares = refl

@@ -22,6 +22,9 @@ use Rattle.formula.specs.Formula.{denominator, ownOf, neighbourOf, numer
 use Rattle.formula.specs.Denominator.{common-denominator, degrees-divide}
 use Rattle.formula.specs.Terms.{need-least}
 
+common : (t : List ℕ) → Common (range (size t)) (gameOf t) (denominator t)
+common t u i = degrees-divide t u (of-range u (size t) i)
+
 module _ {t : List ℕ} (w : Holds t) where
   tidy : (u : ℕ) → u < size t → TidyRow (size t) u (row t u)
   unfolding row
@@ -43,9 +46,6 @@ module _ {t : List ℕ} (w : Holds t) where
     watch-inside = λ u i v m. in-range v (size t) (neighbour-below u (of-range u (size t) i) v m);
     watch-other = λ u i. not-own u (of-range u (size t) i);
   }
-
-  common : Common (range (size t)) (gameOf t) (denominator t)
-  common u i = degrees-divide t u (of-range u (size t) i)
 
   -- SYMMETRY: v watches just the buses that watch it. Only here is it used that the table is mirrored; what rests on that cites this
   pub two-way : (u v : ℕ) → u < size t → v < size t → has v (row t u) ≡ has u (row t v)
@@ -72,7 +72,7 @@ module _ {t : List ℕ} (w : Holds t) where
   pub fair : (v : ℕ) → v < size t → FairShare t (denominator t) v (numerator t v)
   fair v b = record {
     over = common-denominator t;
-    average = subst (Fair (size t) (gameOf t) (denominator t) v) (as-game v b) (fairness-buses (size t) (gameOf t) game-on (denominator t) common v b);
+    average = subst (Fair (size t) (gameOf t) (denominator t) v) (as-game v b) (fairness-buses (size t) (gameOf t) game-on (denominator t) (common t) v b);
   }
 
   -- and all numerators add up to n L
@@ -80,6 +80,6 @@ module _ {t : List ℕ} (w : Holds t) where
   whole =
       sym (sumBy-range (numerator t) (size t))
       ∙ sumBy-cong-in (range (size t)) (λ v i. sym (as-game v (of-range v (size t) i)))
-      ∙ total (gameOf t) (range (size t)) game-on (denominator t) common
+      ∙ total (gameOf t) (range (size t)) game-on (denominator t) (common t)
       ∙ ap (λ x. denominator t * x) (sumBy-ones (range (size t)) ∙ length-range (size t))
       ∙ mul-comm (denominator t) (size t)

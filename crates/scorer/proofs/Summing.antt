@@ -13,7 +13,7 @@ use Rattle.tables.specs.Limits.{maxDegree}
 use Rattle.tables.specs.Layout.{size, row}
 use Rattle.tables.specs.Holds.{Holds}
 use Rattle.formula.specs.Formula.{denominator, ownOf, neighbourOf, numerator}
-use Rattle.formula.specs.Denominator.{degree-few, denominator-most}
+use Rattle.formula.specs.Denominator.{maxDenominator, degree-few, denominator-most}
 use Rattle.formula.specs.Terms.{neighbour-most, neighbours-most, own-rest}
 use Rattle.formula.specs.Fair.{neighbour-below}
 
@@ -23,7 +23,7 @@ summed t bus k = ownOf t bus + sumBy (neighbourOf t) (take k (row t bus))
 
 -- no sum of them is above this, which is far below 2 ^ 64
 abbrev pub most : ℕ
-most = (2 + maxDegree) * 5354228880
+most = (2 + maxDegree) * maxDenominator
 
 -- the row r of a bus, as code has it
 module _ {t : List ℕ} (w : Holds t) {bus : ℕ} {r : List ℕ} (b : bus < size t) (er : r ≡ row t bus) where
@@ -66,6 +66,6 @@ module _ {t : List ℕ} (w : Holds t) {bus : ℕ} {r : List ℕ} (b : bus < size
             neighbours-most t (take k (row t bus)),
             denominator-most w,
             own-rest w bus b,
-            mul-le-mul {n₁ = length (take k (row t bus))} {m₁ = denominator t} {n₂ = maxDegree} {m₂ = 5354228880}
+            mul-le-mul {n₁ = length (take k (row t bus))} {m₁ = denominator t} {n₂ = maxDegree} {m₂ = maxDenominator}
                 (omega (arith, length-take-le k (row t bus) (omega (arith, ap length er)), ap length er, degree-few w bus b)) (denominator-most w),
           )

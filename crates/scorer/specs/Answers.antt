@@ -1,6 +1,5 @@
 -- What Shares and Share answer and store, for every slice, and that it is fair.
 -- Definitions only. Assumes nothing.
-use mathlib.Core.Bool.{not}
 use mathlib.Core.List.{List, [], _∷_, _++_}
 use mathlib.Core.Path.{_≡_}
 use Prim.Native.Nat.{ℕ, _*_, _≤_, _<_}
@@ -8,12 +7,12 @@ use lib.Dec.{ltb}
 use lib.ListN.{length, drop}
 use Rattle.lists.specs.Lists.{at}
 use Rattle.lists.specs.Below.{sumBelow, mapBelow}
-use Rattle.refusals.specs.declared.Refusal.the-variants.{NoNetwork, NumeratorsTooShort}
+use Rattle.refusals.specs.declared.Refusal.the-variants.{NumeratorsTooShort}
 use Rattle.refusals.specs.Numbers.{numberOf}
 use Rattle.refusals.specs.Outcomes.{Outcome, gives, refuses, Cause, _⇒_, outcome, valuesOr}
 use Rattle.tables.specs.Layout.{size}
-use Rattle.tables.specs.Holds.{holds, Holds}
-use Rattle.tables.specs.Answers.{busCauses}
+use Rattle.tables.specs.Holds.{Holds}
+use Rattle.tables.specs.Answers.{onTable, busCauses}
 use Rattle.formula.specs.Formula.{denominator, numerator, FairShare}
 use Rattle.scorer.specs.declared.AllShares.{AllShares}
 use Rattle.scorer.specs.declared.AllShares.the-variants as all
@@ -27,9 +26,9 @@ abbrev pub sharesSays : AllShares → Outcome ℕ
 sharesSays (all.Over L) = gives L
 sharesSays (all.Refused r) = refuses (numberOf r)
 
--- the slice holds no network; fewer than n entries are lent for numerators
+-- fewer than n entries are lent for numerators
 abbrev pub sharesCauses : List ℕ → ℕ → List Cause
-sharesCauses t lent = (not (holds t) ⇒ NoNetwork) ∷ (ltb lent (size t) ⇒ NumeratorsTooShort) ∷ []
+sharesCauses t lent = onTable t ((ltb lent (size t) ⇒ NumeratorsTooShort) ∷ [])
 
 abbrev pub sharesOutcome : List ℕ → ℕ → Outcome ℕ
 sharesOutcome t lent = outcome (sharesCauses t lent) (denominator t)

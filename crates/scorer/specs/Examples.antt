@@ -10,7 +10,7 @@ use Rattle.fraction.specs.Divisors.{gcdOf, lcmOf, lcmAll}
 use Rattle.game.specs.Game.{ownTerm, neighbourTerm}
 use Rattle.tables.specs.Layout.{rowAt, needs, starts, links, row}
 use Rattle.tables.specs.Holds.{within, complete, fairNeeds, neverFall, shortRows, tidy, tidyRow, tidyRows, soundRows, mirrored, twoWay, holds}
-use Rattle.formula.specs.Examples.{path}
+use Rattle.tables.specs.Examples.{path}
 use Rattle.formula.specs.Formula.{largestDegree, denominator, ownOf, neighbourOf, numerator}
 use Rattle.scorer.specs.Answers.{sharesOutcome, storedNumerators, numeratorsAfter, shareOutcome}
 

@@ -10,9 +10,13 @@ use Rattle.refusals.specs.Outcomes.{Outcome, Cause, _⇒_, outcome, valuesOr}
 use Rattle.tables.specs.Layout.{size, needs, row, degree}
 use Rattle.tables.specs.Holds.{holds}
 
--- why a call on a bus of a table is refused: the slice holds no network; the bus is n or above
+-- why any call on a table is refused: the slice holds no network, which is tested first; then the call's own causes
+abbrev pub onTable : List ℕ → List Cause → List Cause
+onTable t causes = (not (holds t) ⇒ NoNetwork) ∷ causes
+
+-- of a call on a bus: the bus is n or above
 abbrev pub busCauses : List ℕ → ℕ → List Cause
-busCauses t bus = (not (holds t) ⇒ NoNetwork) ∷ (not (ltb bus (size t)) ⇒ NoSuchBus) ∷ []
+busCauses t bus = onTable t ((not (ltb bus (size t)) ⇒ NoSuchBus) ∷ [])
 
 abbrev pub degreeOutcome : List ℕ → ℕ → Outcome ℕ
 degreeOutcome t bus = outcome (busCauses t bus) (degree t bus)

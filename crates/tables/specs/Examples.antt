@@ -21,22 +21,22 @@ most-entries = refl
 most-bytes : maxBytes ≡ 24068
 most-bytes = refl
 
--- 01's Path: three buses in a row, needs 1
-path : List ℕ
-path = 3 ∷ 1 ∷ 1 ∷ 1 ∷ 0 ∷ 1 ∷ 3 ∷ 4 ∷ 1 ∷ 0 ∷ 2 ∷ 1 ∷ []
+-- 01's Path: three buses in a row, needs 1, but k at bus 1
+unfoldable pub path : ℕ → List ℕ
+path k = 3 ∷ 1 ∷ k ∷ 1 ∷ 0 ∷ 1 ∷ 3 ∷ 4 ∷ 1 ∷ 0 ∷ 2 ∷ 1 ∷ []
 
 -- its rows, laid out again
 pathRows : ℕ → List ℕ
 pathRows i = getD ((1 ∷ []) ∷ (0 ∷ 2 ∷ []) ∷ (1 ∷ []) ∷ []) i []
 
-path-laid : tableOf 3 (1 ∷ 1 ∷ 1 ∷ []) pathRows ≡ path
+path-laid : tableOf 3 (1 ∷ 1 ∷ 1 ∷ []) pathRows ≡ path 1
 unfolding path pathRows tableOf laid joinBelow mapBelow
 path-laid = refl
 
 -- one bus without lines, need 24; Path; Path with entries beyond
 networks : List (List ℕ)
 unfolding path
-networks = (1 ∷ 24 ∷ 0 ∷ 0 ∷ []) ∷ path ∷ (path ++ 9 ∷ 9 ∷ []) ∷ []
+networks = (1 ∷ 24 ∷ 0 ∷ 0 ∷ []) ∷ path 1 ∷ (path 1 ++ 9 ∷ 9 ∷ []) ∷ []
 
 networks-hold : map holds networks ≡ true ∷ true ∷ true ∷ []
 unfolding networks holds twoWay complete within fairNeeds soundRows neverFall shortRows tidyRows tidyRow tidy mirrored rowAt needs starts links row at allBelow
@@ -75,7 +75,7 @@ unfolding others holds twoWay complete within fairNeeds soundRows neverFall shor
 others-do-not = refl
 
 -- a bus with lines to n others: 23 are allowed, 24 are not
-star : ℕ → List ℕ
+unfoldable pub star : ℕ → List ℕ
 star n = suc n ∷ replicate (suc n) 1 ++ (0 ∷ mapBelow (suc n) (λ i. n + i)) ++ mapBelow n suc ++ replicate n 0
 
 stars : (holds (star 23) ≡ true) × (holds (star 24) ≡ false)
@@ -87,18 +87,18 @@ three-needs : mapBelow 3 (need (3 ∷ 1 ∷ 2 ∷ 24 ∷ 0 ∷ 0 ∷ 0 ∷ 0 ∷
 unfolding mapBelow joinBelow needs at
 three-needs = refl
 
-path-lines : lines path ≡ 2
+path-lines : lines (path 1) ≡ 2
 unfolding path lines sumBelow holds twoWay complete within fairNeeds soundRows neverFall shortRows tidyRows tidyRow tidy mirrored rowAt needs starts links row at allBelow
 path-lines = refl
 
 path-answers :
-    (map (degreeOutcome path) (0 ∷ 1 ∷ 2 ∷ 3 ∷ []) ≡ gives 1 ∷ gives 2 ∷ gives 1 ∷ refuses 13 ∷ [])
-    × (map (rowOutcome path) (0 ∷ 1 ∷ 2 ∷ 3 ∷ []) ≡ (1 ∷ []) ∷ (0 ∷ 2 ∷ []) ∷ (1 ∷ []) ∷ [] ∷ [])
+    (map (degreeOutcome (path 1)) (0 ∷ 1 ∷ 2 ∷ 3 ∷ []) ≡ gives 1 ∷ gives 2 ∷ gives 1 ∷ refuses 13 ∷ [])
+    × (map (rowOutcome (path 1)) (0 ∷ 1 ∷ 2 ∷ 3 ∷ []) ≡ (1 ∷ []) ∷ (0 ∷ 2 ∷ []) ∷ (1 ∷ []) ∷ [] ∷ [])
 unfolding path holds twoWay complete within fairNeeds soundRows neverFall shortRows tidyRows tidyRow tidy mirrored rowAt needs starts links row at allBelow
 path-answers = (refl, refl)
 
 -- a longer tail
-same-answers : (degreeOutcome (path ++ 9 ∷ 9 ∷ []) 1 ≡ gives 2) × (rowOutcome (path ++ 9 ∷ 9 ∷ []) 1 ≡ 0 ∷ 2 ∷ [])
+same-answers : (degreeOutcome (path 1 ++ 9 ∷ 9 ∷ []) 1 ≡ gives 2) × (rowOutcome (path 1 ++ 9 ∷ 9 ∷ []) 1 ≡ 0 ∷ 2 ∷ [])
 unfolding path holds twoWay complete within fairNeeds soundRows neverFall shortRows tidyRows tidyRow tidy mirrored rowAt needs starts links row at allBelow
 same-answers = (refl, refl)
 

@@ -12,7 +12,7 @@ use Rattle.game.specs.Game.{neighbourTerm}
 use Rattle.tables.specs.Layout.{size, degree, need}
 use Rattle.tables.specs.Holds.{Holds}
 use Rattle.formula.specs.Formula.{denominator, neighbourOf}
-use Rattle.formula.specs.Denominator.{degree-few, denominator-most}
+use Rattle.formula.specs.Denominator.{maxDenominator, degree-few, denominator-most}
 use Rattle.formula.specs.Terms.{neighbour-most}
 use Rattle.terms.specs.Unit.{degrees, unit}
 
@@ -38,5 +38,5 @@ module _ (t : List ℕ) (bus : ℕ) {d k : ℕ} (ed : d ≡ degree t bus) (ek : 
     unfolding neighbourOf neighbourTerm unit
     gives-some = rw (eu, ← ed, ← ek, le-leb k d l)
 
-    pub some-fits : Holds t → (d + 1 - k) * u ≤ 5354228880
+    pub some-fits : Holds t → (d + 1 - k) * u ≤ maxDenominator
     some-fits w = omega (arith, gives-some, neighbour-most t bus, denominator-most w)

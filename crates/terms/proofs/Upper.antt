@@ -12,7 +12,7 @@ use Rattle.lists.specs.Range.{in-mapBelow, of-mapBelow}
 use Rattle.fraction.specs.Divisors.{lcmOf, lcmAll}
 use Rattle.fraction.specs.Lcm.{lcmAll-multiple, lcmAll-least, lcmAll-next}
 use Rattle.tables.specs.Limits.{maxDegree}
-use Rattle.formula.specs.Denominator.{up-to, of-up-to, multiple-most}
+use Rattle.formula.specs.Denominator.{up-to, of-up-to, maxDenominator, multiple-most}
 
 -- the numbers behind m / 2, from 0 on
 abbrev behind : ℕ → ℕ → ℕ
@@ -35,7 +35,7 @@ module _ (m : ℕ) where
       let b : k - m / 2 + 1 ≡ k + 1 - m / 2 = omega arith in
       ap₂ lcmOf a e ∙ lcmAll-next (behind m) (k - m / 2) ∙ ap (λ n. lcmAll (mapBelow n (behind m))) b
 
-  pub upper-most : (n : ℕ) → m / 2 + n ≤ 1 + maxDegree → upper m n ≤ 5354228880
+  pub upper-most : (n : ℕ) → m / 2 + n ≤ 1 + maxDegree → upper m n ≤ maxDenominator
   unfolding upper
   upper-most n h = multiple-most _ (λ x i. let w = of-mapBelow (behind m) n x i in (omega (arith, w .2), omega (arith, w .1, w .2)))
 

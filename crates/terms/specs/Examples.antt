@@ -6,7 +6,7 @@ use Rattle.lists.specs.Below.{largestBelow, joinBelow, mapBelow}
 use Rattle.fraction.specs.Divisors.{gcdOf, lcmOf, lcmAll}
 use Rattle.game.specs.Game.{neighbourTerm}
 use Rattle.tables.specs.Layout.{rowAt, needs, starts, links, row}
-use Rattle.formula.specs.Examples.{path}
+use Rattle.tables.specs.Examples.{path}
 use Rattle.formula.specs.Formula.{largestDegree, denominator, neighbourOf}
 use Rattle.terms.specs.Unit.{unit}
 
