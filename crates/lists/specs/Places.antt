@@ -45,6 +45,10 @@ pub at-behind : (l m : List ℕ) (k : ℕ) → at (l ++ m) (length l + k) ≡ at
 unfolding at
 at-behind l m k = getD-append-add l m k 0
 
+pub at-drop : (n : ℕ) (l : List ℕ) (k : ℕ) → at (drop n l) k ≡ at l (n + k)
+unfolding at
+at-drop n l k = getD-drop n l k 0
+
 -- ---- parts
 
 pub length-part : (a e : ℕ) (l : List ℕ) → e ≤ length l → length (part a e l) ≡ e - a

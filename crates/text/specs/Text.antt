@@ -1,0 +1,34 @@
+-- Text in ASCII: numbers in decimal, and templates in which each `#` stands for a number.
+-- Definitions only. Assumes nothing.
+use mathlib.Core.Bool.{Bool, true, false, cond}
+use mathlib.Core.List.{List, [], _∷_, _++_}
+use Prim.Native.Nat.{ℕ, zero, suc, _+_, _/_, _%_}
+use lib.Dec.{ltb, eqb}
+use lib.ListN.{drop}
+use Rattle.lists.specs.Lists.{at}
+
+-- ---- numbers
+
+abbrev pub digit : ℕ → ℕ
+digit d = 48 + d
+
+-- n in decimal, in one digit where that is all, else its last digit behind those of a tenth of it; `more` digits before the last are enough
+abbrev pub spelled : ℕ → Bool → ℕ → List ℕ
+spelled zero all n = digit n ∷ []
+spelled (suc more) true n = digit n ∷ []
+spelled (suc more) false n = spelled more (ltb (n / 10) 10) (n / 10) ++ (digit (n % 10) ∷ [])
+
+-- n in decimal without leading zeros
+unfoldable pub decimal : ℕ → List ℕ
+decimal n = spelled n (ltb n 10) n
+
+-- ---- templates
+
+-- `#`
+abbrev pub sign : ℕ
+sign = 35
+
+-- a template with its numbers: each `#` gives way to the next of them
+unfoldable pub filled : List ℕ → List ℕ → List ℕ
+filled [] values = []
+filled (byte ∷ more) values = cond (eqb sign byte) (decimal (at values 0) ++ filled more (drop 1 values)) (byte ∷ filled more values)
