@@ -16,10 +16,14 @@ abbrev pub cancelSays : Cancelled → Outcome (ℕ × ℕ)
 cancelSays (Pair p q) = gives (p, q)
 cancelSays (Refused r) = refuses (numberOf r)
 
--- denominator 0 is refused whatever the numerator; else both numbers are divided by their greatest common divisor
+-- both numbers divided by their greatest common divisor
+abbrev pub cancelled : ℕ → ℕ → ℕ × ℕ
+cancelled a b = (a / gcdOf a b, b / gcdOf a b)
+
+-- denominator 0 is refused whatever the numerator
 unfoldable pub cancelOutcome : ℕ → ℕ → Outcome (ℕ × ℕ)
 unfolding gcdOf
-cancelOutcome a b = outcome ((eqb b 0 ⇒ NoDenominator) ∷ []) (a / gcdOf a b, b / gcdOf a b)
+cancelOutcome a b = outcome ((eqb b 0 ⇒ NoDenominator) ∷ []) (cancelled a b)
 
 -- p over q is a over b with the greatest common divisor of a and b taken out, and b is not 0
 pub record CancelsTo (a b p q : ℕ) : Type 0 where

@@ -7,7 +7,7 @@ use native.Mathlib.Omega.{arith}
 use borrow.Author.Tests.{ne-eqb}
 use Rattle.refusals.specs.Outcomes.{Outcome, gives, refuses}
 use Rattle.fraction.specs.Divisors.{gcdOf}
-use Rattle.fraction.specs.Cancel.{cancelOutcome, CancelsTo, CancelRule}
+use Rattle.fraction.specs.Cancel.{cancelled, cancelOutcome, CancelsTo, CancelRule}
 use Rattle.fraction.specs.Gcd.{gcd-zero, gcd-flip, gcd-is, gcd-unique, is-gcdOf, gcd-scale}
 
 -- ---- the rule
@@ -45,7 +45,7 @@ pub cancel-refused : {b : ℕ} (a : ℕ) → b ≡ 0 → cancelOutcome a b ≡ r
 unfolding cancelOutcome
 cancel-refused a e = rw e
 
-pub cancel-divided : (a b : ℕ) → 0 < b → cancelOutcome a b ≡ gives (a / gcdOf a b, b / gcdOf a b)
+pub cancel-divided : (a b : ℕ) → 0 < b → cancelOutcome a b ≡ gives (cancelled a b)
 unfolding cancelOutcome
 cancel-divided a b h = rw (ne-eqb b 0 (omega arith))
 

@@ -2,7 +2,7 @@
 ghost use mathlib.Core.Path.{_≡_};
 ghost use Prim.Native.Nat.{_+_, _-_, _^_, _<_, min};
 ghost use Rattle.fraction.specs.Divisors.{IsGcd, IsLcm, lcmOf};
-ghost use Rattle.fraction.specs.Cancel.{cancelSays, cancelOutcome, CancelRule};
+ghost use Rattle.fraction.specs.Cancel.{cancelSays, cancelled, cancelOutcome, CancelRule};
 ghost use Rattle.fraction.specs.Odd.{OddPart};
 use refusals::Refusal;
 
@@ -10,6 +10,12 @@ use refusals::Refusal;
 pub enum Cancelled {
     Pair(u64, u64),
     Refused(Refusal),
+}
+
+// A fraction in lowest terms.
+pub struct Lowest {
+    pub top: u64,
+    pub bottom: u64,
 }
 
 // x divided by 2 until it is odd.
@@ -57,6 +63,18 @@ pub fn gcd(x: u64, y: u64) -> u64
     odd << twos
 }
 
+// The fraction with its numbers divided by what they share.
+pub fn reduce(numerator: u64, denominator: u64) -> Lowest
+    requires { ⌜ 0 < denominator ⌝ }
+    ensures { λ r. ⌜ (r .top, r .bottom) ≡ cancelled numerator denominator ⌝ }
+{
+    let g = gcd(numerator, denominator);
+    Lowest {
+        top: numerator / g,
+        bottom: denominator / g,
+    }
+}
+
 // The fraction in lowest terms.
 pub fn cancel(numerator: u64, denominator: u64) -> Cancelled
     ensures answer { λ r. ⌜ cancelSays r ≡ cancelOutcome numerator denominator ⌝ }
@@ -65,8 +83,8 @@ pub fn cancel(numerator: u64, denominator: u64) -> Cancelled
     if denominator == 0 {
         return Cancelled::Refused(Refusal::NoDenominator);
     }
-    let g = gcd(numerator, denominator);
-    Cancelled::Pair(numerator / g, denominator / g)
+    let lowest = reduce(numerator, denominator);
+    Cancelled::Pair(lowest.top, lowest.bottom)
 }
 
 // The least common multiple, where it fits; no step exceeds it. A step of Euclid's rule makes a small number quick to fold into a large one.
