@@ -3,7 +3,7 @@
 use mathlib.Core.List.{List}
 use mathlib.Core.Path.{_≡_, refl, subst}
 use Prim.Native.Nat.{ℕ, suc, _+_, _-_, _*_, _≤_, _<_, _∣_}
-use native.Mathlib.Nat.{le-of-dvd, dvd-antisymm}
+use native.Mathlib.Nat.{le-of-dvd, dvd-antisymm, pos-of-dvd-of-pos}
 use native.Mathlib.Omega.{arith}
 use Rattle.lists.specs.Lists.{_∈_}
 use Rattle.lists.specs.Below.{joinBelow, mapBelow}
@@ -32,11 +32,17 @@ top : lcmAll (mapBelow (1 + maxDegree) suc) ≡ maxDenominator
 unfolding lcmAll lcmOf gcdOf mapBelow joinBelow
 top = refl
 
--- that of fewer numbers divides it
-pub multiple-most : (l : List ℕ) → ((k : ℕ) → k ∈ l → (1 ≤ k) × (k ≤ 1 + maxDegree)) → lcmAll l ≤ maxDenominator
-multiple-most l h =
-    le-of-dvd (omega arith)
-    (rw top at (lcmAll-part l (mapBelow (1 + maxDegree) suc) (λ k i. up-to (1 + maxDegree) k (h k i .0) (h k i .1))))
+-- that of fewer numbers divides it, so it is above zero and no larger
+module _ (l : List ℕ) (h : (k : ℕ) → k ∈ l → (1 ≤ k) × (k ≤ 1 + maxDegree)) where
+  multiple-divides : lcmAll l ∣ maxDenominator
+  multiple-divides =
+      rw top at (lcmAll-part l (mapBelow (1 + maxDegree) suc) (λ k i. up-to (1 + maxDegree) k (h k i .0) (h k i .1)))
+
+  multiple-some : 0 < lcmAll l
+  multiple-some = pos-of-dvd-of-pos multiple-divides (omega arith)
+
+  pub multiple-most : lcmAll l ≤ maxDenominator
+  multiple-most = le-of-dvd (omega arith) multiple-divides
 
 -- ---- of a table
 
@@ -72,6 +78,13 @@ module _ {t : List ℕ} (w : Holds t) where
   unfolding largestDegree
   largest-few = largestBelow-le (degree t) maxDegree (size t) degree-few
 
+  few : (k : ℕ) → k ∈ mapBelow (1 + largestDegree t) suc → (1 ≤ k) × (k ≤ 1 + maxDegree)
+  few k i = let w = of-up-to (1 + largestDegree t) k i in (w .0, omega (arith, w .1, largest-few))
+
+  pub denominator-some : 0 < denominator t
+  unfolding denominator
+  denominator-some = multiple-some _ few
+
   pub denominator-most : denominator t ≤ maxDenominator
   unfolding denominator
-  denominator-most = multiple-most _ (λ k i. let w = of-up-to (1 + largestDegree t) k i in (w .0, omega (arith, w .1, largest-few)))
+  denominator-most = multiple-most _ few

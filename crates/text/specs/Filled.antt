@@ -25,14 +25,16 @@ filled-append (byte ∷ s) t values =
     (λ e. rw e (ap (λ l. decimal (at values 0) ++ l) (filled-append s t (drop 1 values) ∙ ap (λ l. filled s (drop 1 values) ++ filled t l) (drop-drop (count sign s) 1 values)) ∙ sym (append-assoc (decimal (at values 0)) _ _)))
     (λ e. rw (e, zero-add) (ap (λ l. byte ∷ l) (filled-append s t values)))
 
--- a number below ten to the 20 takes the place of its `#` with at most 20 digits
-pub filled-few : (t values : List ℕ) → ((k : ℕ) → at values k < 10 ^ 20) → length (filled t values) + count sign t ≤ length t + 20 * count sign t
+-- with numbers below ten to the 20 each byte gives at most 20
+pub filled-few : (t values : List ℕ) → ((k : ℕ) → at values k < 10 ^ 20) → length (filled t values) ≤ 20 * length t
 unfolding filled
 filled-few [] values h = omega arith
 filled-few (byte ∷ t) values h =
     split (eqb sign byte)
-    (λ e. rw e
-    (omega (arith, length-append (decimal (at values 0)) (filled t (drop 1 values)), decimal-few 19 (at values 0) (h 0), filled-few t (drop 1 values) (λ k. rw at-drop (h (1 + k))))))
+    (λ e.
+    let long = length-append (decimal (at values 0)) (filled t (drop 1 values)) in
+    let rest = filled-few t (drop 1 values) (λ k. rw at-drop (h (1 + k))) in
+    rw e (omega (arith, long, decimal-few 19 (at values 0) (h 0), rest)))
     (λ e. rw e (omega (arith, filled-few t values h)))
 
 -- a part of a template has no more bytes and numbers than the whole

@@ -4,12 +4,12 @@ use native.Mathlib.Omega.{arith}
 use mathlib.Core.Logic.{⊎-elim}
 use mathlib.Core.List.{[], _∷_}
 use mathlib.Core.Path.{_≡_, refl, sym, ap, _∙_}
-use Prim.Native.Nat.{_+_, _-_, _≤_, _<_}
+use Prim.Native.Nat.{_+_, _-_, _*_, _≤_, _<_}
 use lib.ListN.{length, take}
 use lib.Seq.{take-all}
 use Rattle.lists.specs.Lists.{at, count, put}
 use Rattle.text.specs.Text.{decimal, sign, filled}
-use Rattle.text.specs.Filled.{Turn, sign-turn, sign-there, byte-turn}
+use Rattle.text.specs.Filled.{filled-few, Turn, sign-turn, sign-there, byte-turn}
 use Rattle.text.proofs.measure.Statement.{statement}
 use Rattle.text.proofs.measure.Tie as tie
 
@@ -43,16 +43,21 @@ plain : (c : tie.Else1 Inv-loop μ-loop) → let v = c .before .before .before i
 unfolding at
 plain c = let v = c .before .before .before in byte-turn _ _ _ (v .loop .inv .1) (omega arith) refl (c .if1 .left)
 
+-- the whole has at most 20 times as many bytes as the template
+few : (v : tie.At-loop Inv-loop μ-loop) → let a = v .before .before .before .args in length (filled (a .template .now) (a .values .now)) ≤ 20 * length (a .template .now)
+unfolding at
+few v = filled-few _ _ (λ k. omega (arith, v .before .shared-slice-known2 .given k))
+
 add-bytes : tie.Need-add-bytes Inv-loop μ-loop
 unfolding at
 add-bytes c =
     let i = c .before .before in
     let v = i .before .before .before in
-    record { fits = omega (arith, v .loop .inv .2, c .width .ensures, signed i .room, v .before .before .before .pre .1) }
+    record { fits = omega (arith, v .loop .inv .2, c .width .ensures, signed i .room, few v, v .before .before .before .pre .1) }
 
 add-bytes-2 : tie.Need-add-bytes-2 Inv-loop μ-loop
 add-bytes-2 c =
-    let v = c .before .before .before in record { fits = omega (arith, v .loop .inv .2, plain c .room, v .before .before .before .pre .1) }
+    let v = c .before .before .before in record { fits = omega (arith, v .loop .inv .2, plain c .room, few v, v .before .before .before .pre .1) }
 
 loop-again : tie.Need-loop-again Inv-loop μ-loop
 unfolding at
@@ -70,7 +75,8 @@ loop-again c =
 returns : tie.Need-returns Inv-loop μ-loop
 returns c =
     let a = c .before .before .before .before .args in
-    c .before .loop .inv .2 ∙ ap (λ t. length (filled t (a .values .now))) (take-all _ _ (c .loop-test .left))
+    let whole = c .before .loop .inv .2 ∙ ap (λ t. length (filled t (a .values .now))) (take-all _ _ (c .loop-test .left)) in
+    (whole, omega (arith, whole, few (c .before)))
 
 pub measure-spec : {M : Type 1} → statement M
 measure-spec =

@@ -1,0 +1,47 @@
+-- What Sheet line answers and writes, for every slice. Definitions only. Assumes nothing.
+use mathlib.Core.List.{List, [], _∷_, _++_}
+use Prim.Native.Nat.{ℕ}
+use lib.Dec.{ltb}
+use lib.ListN.{length, drop}
+use Rattle.refusals.specs.declared.Refusal.the-variants.{NoSuchBus, TextTooShort}
+use Rattle.refusals.specs.Numbers.{numberOf}
+use Rattle.refusals.specs.Outcomes.{Outcome, gives, refuses, Cause, _⇒_, outcome, valuesOr}
+use Rattle.tables.specs.Layout.{size}
+use Rattle.tables.specs.Answers.{onTable}
+use Rattle.sheet.specs.declared.Written.{Written}
+use Rattle.sheet.specs.declared.Written.the-variants.{Bytes, Refused}
+use Rattle.sheet.specs.Sheet.{sheetLine}
+
+-- the byte count, or 01's number of the refusal
+abbrev pub writtenSays : Written → Outcome ℕ
+writtenSays (Bytes n) = gives n
+writtenSays (Refused r) = refuses (numberOf r)
+
+-- ---- any text
+
+-- fewer bytes are lent than the text has
+abbrev pub textCauses : List ℕ → ℕ → List Cause
+textCauses text lent = (ltb lent (length text) ⇒ TextTooShort) ∷ []
+
+abbrev pub textOutcome : List ℕ → ℕ → Outcome ℕ
+textOutcome text lent = outcome (textCauses text lent) (length text)
+
+-- the text at the front of bytes that held x, and behind it what they held there
+abbrev pub written : List ℕ → List ℕ → List ℕ
+written text x = text ++ drop (length text) x
+
+-- what bytes that held x hold afterwards: accepted, the text is written; refused, what they held
+abbrev pub textAfter : List ℕ → List ℕ → List ℕ
+textAfter text x = valuesOr x (outcome (textCauses text (length x)) (written text x))
+
+-- ---- Sheet line
+
+-- the sheet has no line i; then as for any text
+abbrev pub lineCauses : List ℕ → ℕ → ℕ → List Cause
+lineCauses t i lent = onTable t ((ltb (size t) i ⇒ NoSuchBus) ∷ textCauses (sheetLine t i) lent)
+
+abbrev pub lineOutcome : List ℕ → ℕ → ℕ → Outcome ℕ
+lineOutcome t i lent = outcome (lineCauses t i lent) (length (sheetLine t i))
+
+abbrev pub lineAfter : List ℕ → ℕ → List ℕ → List ℕ
+lineAfter t i x = valuesOr x (outcome (lineCauses t i (length x)) (written (sheetLine t i) x))
