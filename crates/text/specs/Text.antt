@@ -5,7 +5,7 @@ use mathlib.Core.List.{List, [], _∷_, _++_}
 use Prim.Native.Nat.{ℕ, zero, suc, _+_, _/_, _%_}
 use lib.Dec.{ltb, eqb}
 use lib.ListN.{drop}
-use Rattle.lists.specs.Lists.{at}
+use Rattle.lists.specs.Lists.{tally, at}
 
 -- ---- numbers
 
@@ -31,4 +31,6 @@ sign = 35
 -- a template with its numbers: each `#` gives way to the next of them
 unfoldable pub filled : List ℕ → List ℕ → List ℕ
 filled [] values = []
-filled (byte ∷ more) values = cond (eqb sign byte) (decimal (at values 0) ++ filled more (drop 1 values)) (byte ∷ filled more values)
+filled (byte ∷ more) values =
+    let is = eqb sign byte in
+    cond is (decimal (at values 0)) (byte ∷ []) ++ filled more (drop (tally is) values)
