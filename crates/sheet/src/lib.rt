@@ -31,6 +31,15 @@ pub enum Written {
     Refused(Refusal),
 }
 
+// The lines of a sheet; each `#` stands for a number.
+pub struct Template;
+
+impl Template {
+    pub const HEADING: [u8; 23] = *b"buses # lines # over #\n";
+
+    pub const BUS: [u8; 12] = *b"# # # # #/#\n";
+}
+
 // The numbers of the heading.
 pub fn heading_numbers(table: &[u16], over: u64) -> [u64; 3]
     requires { ⌜ Holds (now table) × (over ≡ denominator (now table)) ⌝ }
