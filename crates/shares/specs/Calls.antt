@@ -8,7 +8,7 @@ use borrow.Author.Tests.{le-ltb, lt-ltb}
 use Rattle.refusals.specs.Outcomes.{gives, refuses, outcome}
 use Rattle.tables.specs.Layout.{size}
 use Rattle.tables.specs.Holds.{holds}
-use Rattle.scorer.specs.Answers.{sharesCauses}
+use Rattle.shares.specs.Answers.{sharesCauses}
 
 module _ {A : Type 0} (t : List ℕ) (lent : ℕ) (values : A) where
   pub no-network : holds t ≡ false → outcome (sharesCauses t lent) values ≡ refuses 11

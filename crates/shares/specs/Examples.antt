@@ -12,7 +12,7 @@ use Rattle.tables.specs.Layout.{rowAt, needs, starts, links, row}
 use Rattle.tables.specs.Holds.{within, complete, fairNeeds, neverFall, shortRows, tidy, tidyRow, tidyRows, soundRows, mirrored, twoWay, holds}
 use Rattle.tables.specs.Examples.{path}
 use Rattle.formula.specs.Formula.{largestDegree, denominator, ownOf, neighbourOf, numerator}
-use Rattle.scorer.specs.Answers.{sharesOutcome, storedNumerators, numeratorsAfter, shareOutcome}
+use Rattle.shares.specs.Answers.{sharesOutcome, storedNumerators, numeratorsAfter, shareOutcome}
 
 -- a table, entries lent, the answer of Shares, and the entries after it
 record Case : Type 0 where
@@ -34,6 +34,8 @@ cases =
     ∷ case (path 1) (9 ∷ 9 ∷ []) (refuses 12) (9 ∷ 9 ∷ [])
     ∷ case [] [] (refuses 11) []
     ∷ case (path 0) (9 ∷ 9 ∷ 9 ∷ []) (refuses 11) (9 ∷ 9 ∷ 9 ∷ [])
+    -- both: 11, which is tested first
+    ∷ case (path 0) (9 ∷ 9 ∷ []) (refuses 11) (9 ∷ 9 ∷ [])
     ∷ []
 
 all-shares : map (λ c. let x = c .lent in case (c .table) x (sharesOutcome (c .table) (length x)) (numeratorsAfter (c .table) x)) cases ≡ cases

@@ -17,8 +17,8 @@ use Rattle.tables.specs.Answers.{Alike}
 use Rattle.formula.specs.Formula.{denominator, numerator, FairShare}
 use Rattle.formula.specs.Fair.{fair, whole}
 use Rattle.formula.specs.Same.{same-denominator, same-numerator}
-use Rattle.scorer.specs.Calls.{accepted}
-use Rattle.scorer.specs.Answers.{sharesCauses, sharesOutcome, storedNumerators, numeratorsAfter, AllFair, shareOutcome, OneFair, SharesAlike}
+use Rattle.shares.specs.Calls.{accepted}
+use Rattle.shares.specs.Answers.{sharesCauses, sharesOutcome, storedNumerators, numeratorsAfter, AllFair, shareOutcome, OneFair, SharesAlike}
 
 -- ---- a network, and entries enough lent
 
