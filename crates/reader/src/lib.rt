@@ -9,7 +9,7 @@ ghost use Rattle.tables.specs.Limits.{maxBuses};
 ghost use Rattle.file.specs.Bytes.{busCount, lineCount};
 ghost use Rattle.file.specs.Sections.{counts, readingSays};
 ghost use Rattle.file.specs.Sound.{Sound};
-ghost use Rattle.reader.specs.Read.{recordCauses, readOutcome, storedTable, tableAfter};
+ghost use Rattle.reading.specs.Read.{recordCauses, readOutcome, storedTable, tableAfter};
 pub use file::Counts;
 pub use file::Reading;
 use file::judge;

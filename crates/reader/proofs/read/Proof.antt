@@ -4,7 +4,7 @@ use mathlib.Core.Path.{_≡_, sym, ap, _∙_}
 use Rattle.refusals.specs.Outcomes.{gives}
 use Rattle.file.specs.Sections.{readingSays, sectionsOutcome}
 use Rattle.file.specs.Sound.{sections-sound}
-use Rattle.reader.proofs.Deciding.{sections-refuse, records-decide}
+use Rattle.reading.specs.Deciding.{sections-refuse, records-decide}
 use Rattle.reader.proofs.read.Statement.{statement}
 use Rattle.reader.proofs.read.Tie as tie
 

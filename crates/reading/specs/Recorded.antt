@@ -1,15 +1,14 @@
--- What Read stored is what the file records. Assumes nothing.
+-- What Read stored is what the file records, and what it refused left the slice as it was. Assumes nothing.
 use mathlib.Core.Bool.{true}
 use mathlib.Core.List.{List, _++_}
 use mathlib.Core.Path.{_≡_, sym, ap, _∙_}
 use Prim.Native.Nat.{ℕ, _+_, _*_}
 use native.Mathlib.Omega.{arith}
-use borrow.Author.Tests.{not-false}
 use lib.ListN.{length, drop}
 use Rattle.lists.specs.Lists.{has}
 use Rattle.lists.specs.Below.{joinBelow}
 use Rattle.refusals.specs.Outcomes.{gives, refuses, valuesOr}
-use Rattle.refusals.specs.Causes.{NoneHolds, no-cause, none-gives, none-both, refuses-any}
+use Rattle.refusals.specs.Causes.{refuses-any}
 use Rattle.tables.specs.Layout.{tableOf}
 use Rattle.tables.specs.Holds.{Holds}
 use Rattle.tables.specs.Facts.{fair-facts}
@@ -17,12 +16,17 @@ use Rattle.tables.specs.Laid.{length-tableOf, made-size, made-needs, made-last,
 use Rattle.tables.specs.Lines.{two-for-each}
 use Rattle.file.specs.declared.Counts.{Counts}
 use Rattle.file.specs.Bytes.{busCount, needBytes, lineCount, records}
-use Rattle.file.specs.Sections.{sectionCauses, counts, soundEnds}
-use Rattle.file.specs.Sound.{Sound, sections-sound, length-needBytes, ends-facts}
+use Rattle.file.specs.Sections.{counts, soundEnds}
+use Rattle.file.specs.Sound.{length-needBytes, ends-facts}
 use Rattle.records.specs.Records.{neighbours}
-use Rattle.reader.specs.Read.{recordCauses, readCauses, readOutcome, fileTable, storedTable, tableAfter, AsRecorded}
 use Rattle.records.specs.Pairs.{joined-sym, rows-length}
 use Rattle.records.specs.Neighbours.{neighbours-tidy, neighbours-short, neighbours-joined}
+use Rattle.reading.specs.Read.{readCauses, readOutcome, fileTable, storedTable, tableAfter, AsRecorded}
+use Rattle.reading.specs.Deciding.{whole, sound-ends, none-crowded, none-repeated, table-stored}
+
+-- a refused Read changes nothing
+pub kept : (f t : List ℕ) {k : ℕ} → readOutcome f (length t) ≡ refuses k → tableAfter f t ≡ t
+kept f t e = ap (valuesOr t) (refuses-any (readCauses f (length t)) (counts f) (storedTable f t) e)
 
 -- the file is accepted
 module _ (f t : List ℕ) {c : Counts} (e : readOutcome f (length t) ≡ gives c) where
@@ -35,17 +39,8 @@ module _ (f t : List ℕ) {c : Counts} (e : readOutcome f (length t) ≡ gives c
   abbrev r : List ℕ
   r = records f
 
-  none : NoneHolds (readCauses f (length t))
-  none = no-cause (readCauses f (length t)) (counts f) e .0
-
-  apart : NoneHolds (sectionCauses f) × NoneHolds (recordCauses f (length t))
-  apart = none-both (sectionCauses f) (recordCauses f (length t)) none
-
-  whole : Sound f
-  whole = sections-sound f (none-gives (sectionCauses f) (counts f) (apart .0)) .0
-
   ends : soundEnds n m r ≡ true
-  ends = not-false _ (apart .1 .0)
+  ends = sound-ends f t e
 
   abbrev q : List ℕ
   q = needBytes f
@@ -58,19 +53,19 @@ module _ (f t : List ℕ) {c : Counts} (e : readOutcome f (length t) ≡ gives c
 
   stored : tableAfter f t ≡ tableOf n q rows ++ rest
   unfolding storedTable fileTable
-  stored = ap (valuesOr t) (none-gives (readCauses f (length t)) (storedTable f t) none)
+  stored = table-stored f t e
 
   long : length q ≡ n
-  long = length-needBytes whole
+  long = length-needBytes (whole f t e)
 
   held : Holds (tableOf n q rows ++ rest)
   held =
-      made-holds n q rows rest long (whole .some) (whole .buses) (fair-facts q (whole .needs))
-      (λ i b. neighbours-tidy n m r ends i) (neighbours-short n m r ends (apart .1 .1 .0))
+      made-holds n q rows rest long (whole f t e .some) (whole f t e .buses) (fair-facts q (whole f t e .needs))
+      (λ i b. neighbours-tidy n m r ends i) (neighbours-short n m r ends (none-crowded f t e))
       (λ i j b c. neighbours-joined n m r ends i j ∙ joined-sym m r i j ∙ sym (neighbours-joined n m r ends j i))
 
   numbers : length (joinBelow n rows) ≡ 2 * m
-  numbers = rows-length n m r (ends-facts n m r ends) (apart .1 .1 .1 .0)
+  numbers = rows-length n m r (ends-facts n m r ends) (none-repeated f t e)
 
   -- the table has as many entries as refusal 10 asks for
   pub entries : length (fileTable f) ≡ 2 * n + 2 + 2 * m
@@ -88,7 +83,3 @@ module _ (f t : List ℕ) {c : Counts} (e : readOutcome f (length t) ≡ gives c
         lined = omega (arith, two-for-each _ held, made-last n q rows rest long, numbers);
         joining = λ i j b. ap (has j) (made-row n q rows rest long i b) ∙ neighbours-joined n m r ends i j;
       }
-
--- a refused Read changes nothing
-pub kept : (f t : List ℕ) {k : ℕ} → readOutcome f (length t) ≡ refuses k → tableAfter f t ≡ t
-kept f t e = ap (valuesOr t) (refuses-any (readCauses f (length t)) (counts f) (storedTable f t) e)

@@ -11,7 +11,7 @@ use Rattle.tables.specs.Holds.{within, fairNeeds}
 use Rattle.file.specs.Bytes.{wordAt, needBytes, records}
 use Rattle.file.specs.Sections.{endsBefore, goesOn, twoBuses, soundEnds}
 use Rattle.records.specs.Records.{names, joins, joined, neighbours, crowded, repeats, repeated}
-use Rattle.reader.specs.Read.{readOutcome, fileTable, storedTable, tableAfter}
+use Rattle.reading.specs.Read.{readOutcome, fileTable, storedTable, tableAfter}
 
 -- a file: n buses and their needs, m lines and their records
 file : ℕ → List ℕ → ℕ → List ℕ → List ℕ

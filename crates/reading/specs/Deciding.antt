@@ -1,28 +1,20 @@
--- How the records of a file with sound sections decide, and what is then stored. Assumes nothing.
+-- How the causes of Read decide: the sections, or else the records one cause after another; and what an accepted file has passed.
+-- Assumes nothing.
 use mathlib.Core.Bool.{Bool, true, false}
-use mathlib.Core.List.{List, _∷_, _++_}
+use mathlib.Core.List.{List}
 use mathlib.Core.Path.{_≡_, refl, sym, ap, ap₂, _∙_}
 use Prim.Native.Nat.{ℕ, _+_, _*_, _≤_, _<_}
 use native.Mathlib.Omega.{arith}
-use borrow.Author.Tests.{lt-ltb, le-ltb}
-use lib.ListN.{length, drop}
-use Rattle.lists.specs.Lists.{put}
-use Rattle.lists.specs.Range.{joinBelow-same}
-use Rattle.lists.specs.Writes.{put-front, stored-list}
+use borrow.Author.Tests.{lt-ltb, le-ltb, not-false}
+use lib.ListN.{length}
 use Rattle.refusals.specs.Outcomes.{Outcome, gives, refuses, Cause, outcome, valuesOr}
-use Rattle.refusals.specs.Causes.{first-refuses, then-decides}
-use Rattle.tables.specs.Limits.{maxBuses}
-use Rattle.tables.specs.Layout.{laid, tableOf}
-use Rattle.tables.specs.Laid.{length-laid, laid-same}
-use Rattle.rows.specs.Held.{held}
+use Rattle.refusals.specs.Causes.{NoneHolds, no-cause, none-gives, none-both, first-refuses, then-decides}
 use Rattle.file.specs.declared.Counts.{Counts}
-use Rattle.file.specs.Bytes.{busCount, needBytes, lineCount, records}
+use Rattle.file.specs.Bytes.{busCount, lineCount, records}
 use Rattle.file.specs.Sections.{sectionCauses, counts, sectionsOutcome, soundEnds}
-use Rattle.file.specs.Sound.{Sound, length-needBytes, ends-facts}
-use Rattle.records.specs.Records.{neighbours, crowded, repeated}
-use Rattle.reader.specs.Read.{recordCauses, readCauses, fileTable, storedTable}
-use Rattle.records.specs.Filling.{Filled}
-use Rattle.records.specs.Pairs.{rows-length}
+use Rattle.file.specs.Sound.{Sound, sections-sound}
+use Rattle.records.specs.Records.{crowded, repeated}
+use Rattle.reading.specs.Read.{recordCauses, readCauses, readOutcome, storedTable, tableAfter}
 
 -- n, m and the bytes r of the records were read from the file
 pub record Parts (f : List ℕ) (n m : ℕ) (r : List ℕ) : Type 0 where
@@ -82,28 +74,25 @@ module _ (f t : List ℕ) {n m : ℕ} {r : List ℕ} (p : Parts f n m r) where
             rw (ends sound, crowd free, same once, le-ltb (length t) (2 * busCount f + 2 + 2 * lineCount f) (omega (arith, p .buses, p .lines)))
             (ap₂ (λ n m. gives (record { buses = n; lines = m })) (p .buses) (p .lines), e)
 
-  -- the rows are in the slots
-  module _ (s : Sound f) {slots counts : List ℕ} (w : Filled n m r slots counts) where
-    few : n ≤ maxBuses
-    few = omega (arith, s .buses, p .buses)
+-- an accepted file has passed every test
+module _ (f t : List ℕ) {c : Counts} (e : readOutcome f (length t) ≡ gives c) where
+  none : NoneHolds (readCauses f (length t))
+  none = no-cause (readCauses f (length t)) (counts f) e .0
 
-    each : (i : ℕ) → i < n → held slots counts i ≡ neighbours n m r i
-    each i b = w .each i (omega (arith, few))
+  apart : NoneHolds (sectionCauses f) × NoneHolds (recordCauses f (length t))
+  apart = none-both (sectionCauses f) (recordCauses f (length t)) none
 
-    pub laid-length : soundEnds n m r ≡ true → repeated m r ≡ false → length (laid n (held slots counts)) ≡ n + 1 + 2 * m
-    laid-length sound once =
-        length-laid (held slots counts) n
-        ∙ ap (λ k. n + 1 + k) (ap length (joinBelow-same (held slots counts) (neighbours n m r) n each) ∙ rows-length n m r (ends-facts n m r sound) once)
+  pub whole : Sound f
+  whole = sections-sound f (none-gives (sectionCauses f) (counts f) (apart .0)) .0
 
-    -- the bus count and the needs q, and then the rows, were written into the slice
-    pub built : {q t₁ t₂ : List ℕ} → q ≡ needBytes f → t₁ ≡ put t 0 (length q ∷ q) → t₂ ≡ put t₁ (1 + n) (laid n (held slots counts)) → t₂ ≡ storedTable f t
-    unfolding storedTable fileTable tableOf
-    built {q} e u v =
-        let long : length q ≡ n = ap length e ∙ length-needBytes s ∙ sym (p .buses) in
-        let front = length q ∷ q in
-        let file : front ++ laid n (neighbours n m r) ≡ fileTable f = rw (long, p .buses, p .lines, e, p .pairs) in
-        v
-        ∙ stored-list t 0 front u (omega (arith, long)) (laid n (held slots counts)) (omega arith)
-        ∙ put-front t (front ++ laid n (held slots counts))
-        ∙ ap (λ l. l ++ drop (length l) t)
-        (ap (λ l. front ++ l) (laid-same (held slots counts) (neighbours n m r) n each) ∙ file)
+  pub sound-ends : soundEnds (busCount f) (lineCount f) (records f) ≡ true
+  sound-ends = not-false _ (apart .1 .0)
+
+  pub none-crowded : crowded (busCount f) (lineCount f) (records f) ≡ false
+  none-crowded = apart .1 .1 .0
+
+  pub none-repeated : repeated (lineCount f) (records f) ≡ false
+  none-repeated = apart .1 .1 .1 .0
+
+  pub table-stored : tableAfter f t ≡ storedTable f t
+  table-stored = rw (none-gives (readCauses f (length t)) (storedTable f t) none)
