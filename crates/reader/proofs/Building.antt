@@ -12,9 +12,9 @@ use Rattle.tables.specs.Limits.{maxBuses}
 use Rattle.tables.specs.Layout.{laid, tableOf}
 use Rattle.tables.specs.Laid.{length-laid, laid-same}
 use Rattle.rows.specs.Held.{held}
-use Rattle.file.specs.Bytes.{needBytes}
-use Rattle.file.specs.Sections.{soundEnds}
-use Rattle.file.specs.Sound.{Sound, length-needBytes, ends-facts}
+use Rattle.format.specs.Bytes.{needBytes}
+use Rattle.format.specs.Sections.{soundEnds}
+use Rattle.format.specs.Sound.{Sound, length-needBytes, ends-facts}
 use Rattle.records.specs.Records.{neighbours, repeated}
 use Rattle.records.specs.Filling.{Filled}
 use Rattle.records.specs.Pairs.{rows-length}

@@ -9,10 +9,10 @@ use borrow.Author.Tests.{lt-ltb, le-ltb, not-false}
 use lib.ListN.{length}
 use Rattle.refusals.specs.Outcomes.{Outcome, gives, refuses, Cause, outcome, valuesOr}
 use Rattle.refusals.specs.Causes.{NoneHolds, no-cause, none-gives, none-both, first-refuses, then-decides}
-use Rattle.file.specs.declared.Counts.{Counts}
-use Rattle.file.specs.Bytes.{busCount, lineCount, records}
-use Rattle.file.specs.Sections.{sectionCauses, counts, sectionsOutcome, soundEnds}
-use Rattle.file.specs.Sound.{Sound, sections-sound}
+use Rattle.format.specs.declared.Counts.{Counts}
+use Rattle.format.specs.Bytes.{busCount, lineCount, records}
+use Rattle.format.specs.Sections.{sectionCauses, counts, sectionsOutcome, soundEnds}
+use Rattle.format.specs.Sound.{Sound, sections-sound}
 use Rattle.records.specs.Records.{crowded, repeated}
 use Rattle.reading.specs.Read.{recordCauses, readCauses, readOutcome, storedTable, tableAfter}
 

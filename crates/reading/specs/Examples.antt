@@ -8,8 +8,8 @@ use Rattle.lists.specs.Below.{allBelow, anyBelow, sumBelow, joinBelow, mapBelow
 use Rattle.refusals.specs.Outcomes.{gives, refuses}
 use Rattle.tables.specs.Layout.{laid, tableOf}
 use Rattle.tables.specs.Holds.{within, fairNeeds}
-use Rattle.file.specs.Bytes.{wordAt, needBytes, records}
-use Rattle.file.specs.Sections.{endsBefore, goesOn, twoBuses, soundEnds}
+use Rattle.format.specs.Bytes.{wordAt, needBytes, records}
+use Rattle.format.specs.Sections.{endsBefore, goesOn, twoBuses, soundEnds}
 use Rattle.records.specs.Records.{names, joins, joined, neighbours, crowded, repeats, repeated}
 use Rattle.reading.specs.Read.{readOutcome, fileTable, storedTable, tableAfter}
 

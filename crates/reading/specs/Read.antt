@@ -11,9 +11,9 @@ use Rattle.refusals.specs.declared.Refusal.the-variants.{LineEnds, CrowdedBus, 
 use Rattle.refusals.specs.Outcomes.{Outcome, Cause, _⇒_, outcome, valuesOr}
 use Rattle.tables.specs.Layout.{size, needs, row, lines, tableOf}
 use Rattle.tables.specs.Holds.{Holds}
-use Rattle.file.specs.declared.Counts.{Counts}
-use Rattle.file.specs.Bytes.{busCount, needBytes, lineCount, records}
-use Rattle.file.specs.Sections.{sectionCauses, counts, soundEnds}
+use Rattle.format.specs.declared.Counts.{Counts}
+use Rattle.format.specs.Bytes.{busCount, needBytes, lineCount, records}
+use Rattle.format.specs.Sections.{sectionCauses, counts, soundEnds}
 use Rattle.records.specs.Records.{joined, neighbours, crowded, repeated}
 
 -- each over all records before the next: a wrong end, a crowded bus, a repeated pair; then too few entries lent

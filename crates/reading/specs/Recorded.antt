@@ -14,10 +14,10 @@ use Rattle.tables.specs.Holds.{Holds}
 use Rattle.tables.specs.Facts.{fair-facts}
 use Rattle.tables.specs.Laid.{length-tableOf, made-size, made-needs, made-last, made-row, made-holds}
 use Rattle.tables.specs.Lines.{two-for-each}
-use Rattle.file.specs.declared.Counts.{Counts}
-use Rattle.file.specs.Bytes.{busCount, needBytes, lineCount, records}
-use Rattle.file.specs.Sections.{counts, soundEnds}
-use Rattle.file.specs.Sound.{length-needBytes, ends-facts}
+use Rattle.format.specs.declared.Counts.{Counts}
+use Rattle.format.specs.Bytes.{busCount, needBytes, lineCount, records}
+use Rattle.format.specs.Sections.{counts, soundEnds}
+use Rattle.format.specs.Sound.{length-needBytes, ends-facts}
 use Rattle.records.specs.Records.{neighbours}
 use Rattle.records.specs.Pairs.{joined-sym, rows-length}
 use Rattle.records.specs.Neighbours.{neighbours-tidy, neighbours-short, neighbours-joined}

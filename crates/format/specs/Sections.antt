@@ -7,14 +7,11 @@ use lib.Dec.{ltb, eqb}
 use lib.ListN.{length}
 use Rattle.lists.specs.Below.{allBelow}
 use Rattle.refusals.specs.declared.Refusal.the-variants.{FileTooShort, BusCount, Need, LineCount, FileTooLong}
-use Rattle.refusals.specs.Numbers.{numberOf}
-use Rattle.refusals.specs.Outcomes.{Outcome, gives, refuses, Cause, _⇒_, outcome}
+use Rattle.refusals.specs.Outcomes.{Outcome, Cause, _⇒_, outcome}
 use Rattle.tables.specs.Limits.{maxBuses, maxLines}
 use Rattle.tables.specs.Holds.{within, fairNeeds}
-use Rattle.file.specs.declared.Counts.{Counts}
-use Rattle.file.specs.declared.Reading.{Reading}
-use Rattle.file.specs.declared.Reading.the-variants.{Accepted, Refused}
-use Rattle.file.specs.Bytes.{busCount, needsEnd, needBytes, lineCount, recordsAt, fileEnd, firstEnd, secondEnd}
+use Rattle.format.specs.declared.Counts.{Counts}
+use Rattle.format.specs.Bytes.{busCount, needsEnd, needBytes, lineCount, recordsAt, fileEnd, firstEnd, secondEnd}
 
 -- the file ends before place i
 unfoldable pub endsBefore : ℕ → List ℕ → Bool
@@ -40,11 +37,6 @@ sectionCauses f =
 -- n and m
 abbrev pub counts : List ℕ → Counts
 counts f = record { buses = busCount f; lines = lineCount f }
-
--- the counts or the number that a reading stands for
-abbrev pub readingSays : Reading → Outcome Counts
-readingSays (Accepted c) = gives c
-readingSays (Refused r) = refuses (numberOf r)
 
 abbrev pub sectionsOutcome : List ℕ → Outcome Counts
 sectionsOutcome f = outcome (sectionCauses f) (counts f)

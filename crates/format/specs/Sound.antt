@@ -17,9 +17,9 @@ use Rattle.refusals.specs.Causes.{no-cause}
 use Rattle.tables.specs.Limits.{maxBuses, maxLines, maxBytes}
 use Rattle.tables.specs.Holds.{fairNeeds}
 use Rattle.tables.specs.Facts.{within-facts}
-use Rattle.file.specs.declared.Counts.{Counts}
-use Rattle.file.specs.Bytes.{busCount, needsEnd, needBytes, lineCount, recordsAt, fileEnd, records, firstEnd, secondEnd}
-use Rattle.file.specs.Sections.{endsBefore, goesOn, sectionCauses, counts, sectionsOutcome, twoBuses, soundEnds}
+use Rattle.format.specs.declared.Counts.{Counts}
+use Rattle.format.specs.Bytes.{busCount, needsEnd, needBytes, lineCount, recordsAt, fileEnd, records, firstEnd, secondEnd}
+use Rattle.format.specs.Sections.{endsBefore, goesOn, sectionCauses, counts, sectionsOutcome, twoBuses, soundEnds}
 
 -- ---- the sections
 

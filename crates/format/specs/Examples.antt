@@ -7,8 +7,8 @@ use Rattle.lists.specs.Lists.{at}
 use Rattle.lists.specs.Below.{allBelow}
 use Rattle.refusals.specs.Outcomes.{gives, refuses}
 use Rattle.tables.specs.Holds.{within, fairNeeds}
-use Rattle.file.specs.Bytes.{wordAt, needBytes, records, firstEnd, secondEnd}
-use Rattle.file.specs.Sections.{endsBefore, goesOn, sectionsOutcome, twoBuses, soundEnds}
+use Rattle.format.specs.Bytes.{wordAt, needBytes, records, firstEnd, secondEnd}
+use Rattle.format.specs.Sections.{endsBefore, goesOn, sectionsOutcome, twoBuses, soundEnds}
 
 -- 01's Path but for its last byte
 cut : List ℕ
