@@ -13,8 +13,8 @@ use Rattle.refusals.specs.Outcomes.{gives, refuses, Cause, _⇒_, outcome}
 use Rattle.refusals.specs.Causes.{stops, goes-on}
 use Rattle.tables.specs.Holds.{within}
 use Rattle.tables.specs.Facts.{within-facts, within-test}
-use Rattle.file.specs.Bytes.{wordAt, busCount, lineCount}
-use Rattle.file.specs.Sections.{endsBefore, goesOn, sectionCauses, counts, sectionsOutcome}
+use Rattle.format.specs.Bytes.{wordAt, busCount, lineCount}
+use Rattle.format.specs.Sections.{endsBefore, goesOn, sectionCauses, counts, sectionsOutcome}
 
 -- the causes left to decide on a file
 pub record Left (f : List ℕ) (cs : List Cause) : Type 0 where

@@ -1,4 +1,2 @@
-pub mod Bytes
-pub mod Sections
-pub mod Examples
-pub mod Sound
+-- What a reading of a file stands for.
+pub mod Answers

@@ -4,17 +4,13 @@ ghost use Prim.Native.Nat.{_+_, _*_, _≤_, _<_};
 ghost use lib.ListN.{length};
 ghost use Rattle.tables.specs.Limits.{maxNeed};
 ghost use Rattle.tables.specs.Holds.{within, fairNeeds};
-ghost use Rattle.file.specs.Bytes.{wordAt, busCount, needsEnd, needBytes, records, firstEnd, secondEnd};
-ghost use Rattle.file.specs.Sound.{Sound};
-ghost use Rattle.file.specs.Sections.{readingSays, sectionsOutcome, twoBuses, soundEnds};
+ghost use Rattle.format.specs.Bytes.{wordAt, busCount, needsEnd, needBytes, records, firstEnd, secondEnd};
+ghost use Rattle.format.specs.Sections.{sectionsOutcome, twoBuses, soundEnds};
+ghost use Rattle.format.specs.Sound.{Sound};
+ghost use Rattle.file.specs.Answers.{readingSays};
+pub use format::Counts;
 use network::Network;
 pub use network::Refusal;
-
-// The counts of a network: n and m.
-pub struct Counts {
-    pub buses: usize,
-    pub lines: usize,
-}
 
 // The counts of a file's network, or why the file is refused.
 pub enum Reading {

@@ -1,1 +1,1 @@
-pub mod Deciding
+pub mod Building

@@ -16,8 +16,8 @@ use Rattle.lists.specs.Loops.{sumBelow-next}
 use Rattle.lists.specs.Range.{countBelow-le}
 use Rattle.tables.specs.Limits.{maxBuses, maxDegree}
 use Rattle.rows.specs.Held.{Blank}
-use Rattle.file.specs.Bytes.{firstEnd, secondEnd}
-use Rattle.file.specs.Sound.{TwoBuses, ends-facts, ends-test}
+use Rattle.format.specs.Bytes.{firstEnd, secondEnd}
+use Rattle.format.specs.Sound.{TwoBuses, ends-facts, ends-test}
 use Rattle.records.specs.Records.{names, crowded}
 use Rattle.records.specs.Filling.{SoundRecords, Named}
 use Rattle.records.specs.Pairs.{named-once}

@@ -18,8 +18,8 @@ use Rattle.insertion.specs.Insertion.{insert}
 use Rattle.insertion.specs.Inserting.{insert-listBelow-if}
 use Rattle.rows.specs.Held.{maxSlots, held, Blank, RowsAfter}
 use Rattle.rows.specs.HeldRows.{held-blank, rows-blank, must-add}
-use Rattle.file.specs.Bytes.{firstEnd, secondEnd}
-use Rattle.file.specs.Sound.{ends-facts}
+use Rattle.format.specs.Bytes.{firstEnd, secondEnd}
+use Rattle.format.specs.Sound.{ends-facts}
 use Rattle.records.specs.Records.{names, joins, joined, neighbours, crowded, repeats}
 use Rattle.records.specs.Filling.{SoundRecords, Filled}
 use Rattle.records.specs.Pairs.{joined-sym, joined-next, neighbours-few, names-few}

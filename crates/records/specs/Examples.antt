@@ -5,7 +5,7 @@ use mathlib.Core.Path.{_≡_, refl}
 use Prim.Native.Nat.{ℕ, suc}
 use Rattle.lists.specs.Lists.{at}
 use Rattle.lists.specs.Below.{anyBelow, sumBelow, joinBelow, listBelow}
-use Rattle.file.specs.Bytes.{wordAt}
+use Rattle.format.specs.Bytes.{wordAt}
 use Rattle.records.specs.Records.{names, joins, joined, neighbours, crowded, repeats, repeated}
 
 -- the record of a line from a to b

@@ -9,7 +9,7 @@ use Rattle.lists.specs.Lists.{at}
 use Rattle.lists.specs.Below.{countBelow}
 use Rattle.tables.specs.Limits.{maxBuses, maxLines}
 use Rattle.rows.specs.Held.{held, Rows}
-use Rattle.file.specs.Sections.{soundEnds}
+use Rattle.format.specs.Sections.{soundEnds}
 use Rattle.records.specs.Records.{names, neighbours}
 
 -- m records of a network of n buses, whose ends are sound

@@ -14,9 +14,9 @@ use Rattle.lists.specs.Loops.{anyBelow-at}
 use Rattle.lists.specs.Range.{count-listBelow, has-listBelow, listBelow-in, listBelow-ascends}
 use Rattle.tables.specs.Limits.{maxDegree}
 use Rattle.tables.specs.Holds.{TidyRow}
-use Rattle.file.specs.Bytes.{firstEnd, secondEnd}
-use Rattle.file.specs.Sections.{soundEnds}
-use Rattle.file.specs.Sound.{ends-facts}
+use Rattle.format.specs.Bytes.{firstEnd, secondEnd}
+use Rattle.format.specs.Sections.{soundEnds}
+use Rattle.format.specs.Sound.{ends-facts}
 use Rattle.records.specs.Records.{joins, joined, neighbours, crowded}
 use Rattle.records.specs.Pairs.{neighbours-few, names-few}
 

@@ -15,8 +15,8 @@ use Rattle.lists.specs.Sums.{tally-or, tally-or-le}
 use Rattle.lists.specs.Loops.{anyBelow-next, anyBelow-none}
 use Rattle.lists.specs.Range.{sumBelow-same, sumBelow-add, sumBelow-le, sumBelow-const, countBelow-one, length-joinBelow, length-listBelow}
 use Rattle.tables.specs.Limits.{maxDegree}
-use Rattle.file.specs.Bytes.{firstEnd, secondEnd}
-use Rattle.file.specs.Sound.{SoundEnds}
+use Rattle.format.specs.Bytes.{firstEnd, secondEnd}
+use Rattle.format.specs.Sound.{SoundEnds}
 use Rattle.records.specs.Records.{names, joins, joined, neighbours, crowded, repeats, repeated}
 
 -- who is joined to whom, either way round

@@ -6,7 +6,7 @@ use Prim.Native.Nat.{ℕ}
 use lib.Dec.{ltb, eqb}
 use Rattle.lists.specs.Below.{anyBelow, countBelow, listBelow}
 use Rattle.tables.specs.Limits.{maxDegree}
-use Rattle.file.specs.Bytes.{firstEnd, secondEnd}
+use Rattle.format.specs.Bytes.{firstEnd, secondEnd}
 
 -- record k names bus b
 unfoldable pub names : List ℕ → ℕ → ℕ → Bool

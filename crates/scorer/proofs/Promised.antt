@@ -12,9 +12,9 @@ use Rattle.refusals.specs.Outcomes.{Outcome, gives, refuses, valuesOr}
 use Rattle.tables.specs.Layout.{size}
 use Rattle.tables.specs.Holds.{holds}
 use Rattle.formula.specs.Formula.{denominator, numerator}
-use Rattle.scorer.specs.Answers.{sharesOutcome, storedNumerators, numeratorsAfter, AllFair, shareOutcome, OneFair}
-use Rattle.scorer.specs.Calls.{no-network, too-short, accepted}
-use Rattle.scorer.specs.Claims.{all-fair, one-fair}
+use Rattle.shares.specs.Answers.{sharesOutcome, storedNumerators, numeratorsAfter, AllFair, shareOutcome, OneFair}
+use Rattle.shares.specs.Calls.{no-network, too-short, accepted}
+use Rattle.shares.specs.Claims.{all-fair, one-fair}
 
 module _ (t x : List ℕ) where
   abbrev SharesPromised : Outcome ℕ → List ℕ → Type 0

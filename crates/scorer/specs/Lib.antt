@@ -1,5 +1,2 @@
--- What Shares and Share answer: definitions, computed examples, then laws and claims.
+-- What answers of Shares and Share stand for.
 pub mod Answers
-pub mod Examples
-pub mod Calls
-pub mod Claims

@@ -14,12 +14,12 @@ ghost use Rattle.sheet.specs.Answers.{writtenSays, textOutcome, textAfte
 use fraction::reduce;
 pub use network::Refusal;
 use network::rows::entry;
-use network::table::holds;
 use network::table::lines;
 use network::table::needs;
 use network::table::neighbours;
 use network::table::size;
 use scorer::numerator;
+use table_test::holds;
 use terms::denominator;
 use terms::units;
 use text::fill;

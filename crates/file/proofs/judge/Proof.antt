@@ -7,8 +7,8 @@ use mathlib.Core.Path.{_≡_, sym, ap, _∙_}
 use Prim.Native.Nat.{ℕ}
 use lib.ListN.{drop}
 use Rattle.tables.specs.Holds.{fairNeeds}
-use Rattle.file.specs.Bytes.{needBytes, lineCount}
-use Rattle.file.specs.Sections.{sectionCauses}
+use Rattle.format.specs.Bytes.{needBytes, lineCount}
+use Rattle.format.specs.Sections.{sectionCauses}
 use Rattle.file.proofs.Judging.{Left, all-left, lines-read, accepted, pass, stop, cut, reaches, longer, all-read, inside, under, over}
 use Rattle.file.proofs.judge.Statement.{statement}
 use Rattle.file.proofs.judge.Tie as tie

@@ -3,7 +3,7 @@ use borrow.Author.Needs.{needs}
 use mathlib.Core.Path.{ap}
 use Prim.Native.Nat.{_+_}
 use Rattle.lists.specs.Lists.{part}
-use Rattle.file.specs.Bytes.{needBytes}
+use Rattle.format.specs.Bytes.{needBytes}
 use Rattle.file.proofs.needs.Statement.{statement}
 use Rattle.file.proofs.needs.Tie as tie
 

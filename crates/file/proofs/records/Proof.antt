@@ -3,7 +3,7 @@ use borrow.Author.Needs.{needs}
 use mathlib.Core.Path.{ap₂}
 use Prim.Native.Nat.{_+_}
 use Rattle.lists.specs.Lists.{part}
-use Rattle.file.specs.Bytes.{records}
+use Rattle.format.specs.Bytes.{records}
 use Rattle.file.proofs.records.Statement.{statement}
 use Rattle.file.proofs.records.Tie as tie
 

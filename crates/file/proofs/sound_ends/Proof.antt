@@ -6,7 +6,7 @@ use Prim.Native.Nat.{_-_, _≤_}
 use Rattle.lists.specs.Tests.{fails, passed, failed, never-both}
 use borrow.Author.Count.{below-more}
 use native.Mathlib.Nat.{not-suc-le-zero}
-use Rattle.file.specs.Sound.{SoundEnds, two-facts, two-test, ends-facts, ends-test}
+use Rattle.format.specs.Sound.{SoundEnds, two-facts, two-test, ends-facts, ends-test}
 use Rattle.file.proofs.sound_ends.Statement.{statement}
 use Rattle.file.proofs.sound_ends.Tie as tie
 

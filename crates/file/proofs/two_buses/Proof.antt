@@ -3,8 +3,8 @@ use native.Mathlib.Omega.{arith}
 use mathlib.Core.Path.{sym}
 use borrow.Author.Tests.{lt-ltb}
 use Rattle.lists.specs.Tests.{fails}
-use Rattle.file.specs.Sections.{twoBuses}
-use Rattle.file.specs.Sound.{two-facts}
+use Rattle.format.specs.Sections.{twoBuses}
+use Rattle.format.specs.Sound.{two-facts}
 use Rattle.file.proofs.two_buses.Statement.{statement}
 use Rattle.file.proofs.two_buses.Tie as tie
 

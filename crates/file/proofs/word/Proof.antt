@@ -4,7 +4,7 @@ use native.Mathlib.Omega.{arith}
 use mathlib.Core.Path.{refl}
 use Prim.Native.Nat.{_+_}
 use Rattle.lists.specs.Lists.{at}
-use Rattle.file.specs.Bytes.{wordAt}
+use Rattle.format.specs.Bytes.{wordAt}
 use Rattle.file.proofs.word.Statement.{statement}
 use Rattle.file.proofs.word.Tie as tie
 

@@ -2,9 +2,10 @@
 use borrow.Author.Needs.{needs}
 use mathlib.Core.Path.{_≡_, sym, ap, _∙_}
 use Rattle.refusals.specs.Outcomes.{gives}
-use Rattle.file.specs.Sections.{readingSays, sectionsOutcome}
-use Rattle.file.specs.Sound.{sections-sound}
-use Rattle.reader.proofs.Deciding.{sections-refuse, records-decide}
+use Rattle.format.specs.Sections.{sectionsOutcome}
+use Rattle.format.specs.Sound.{sections-sound}
+use Rattle.file.specs.Answers.{readingSays}
+use Rattle.reading.specs.Deciding.{sections-refuse, records-decide}
 use Rattle.reader.proofs.read.Statement.{statement}
 use Rattle.reader.proofs.read.Tie as tie
 

@@ -9,11 +9,12 @@ use Prim.Native.Nat.{ℕ, _*_, _≤_}
 use lib.ListN.{length}
 use borrow.Author.Tests.{not-true, not-false}
 use Rattle.lists.specs.Tests.{passed, failed}
-use Rattle.file.specs.Sections.{soundEnds}
-use Rattle.file.specs.Sound.{length-needBytes, length-records}
+use Rattle.format.specs.Sections.{soundEnds}
+use Rattle.format.specs.Sound.{length-needBytes, length-records}
 use Rattle.records.specs.Records.{crowded, repeated}
 use Rattle.records.specs.Filling.{SoundRecords, Filled}
-use Rattle.reader.proofs.Deciding.{Parts, wrong-ends, crowded-bus, repeated-line, short-table, laid-length, accepted, built}
+use Rattle.reading.specs.Deciding.{Parts, wrong-ends, crowded-bus, repeated-line, short-table, accepted}
+use Rattle.reader.proofs.Building.{laid-length, built}
 use Rattle.reader.proofs.read_records.Statement.{statement}
 use Rattle.reader.proofs.read_records.Tie as tie
 

@@ -1,0 +1,50 @@
+-- Which files have sound sections: refusals 1 to 5, in file order, and the test of record ends that 6 rests on.
+-- Definitions only. Assumes nothing.
+use mathlib.Core.Bool.{Bool, not, _&&_}
+use mathlib.Core.List.{List, [], _∷_}
+use Prim.Native.Nat.{ℕ}
+use lib.Dec.{ltb, eqb}
+use lib.ListN.{length}
+use Rattle.lists.specs.Below.{allBelow}
+use Rattle.refusals.specs.declared.Refusal.the-variants.{FileTooShort, BusCount, Need, LineCount, FileTooLong}
+use Rattle.refusals.specs.Outcomes.{Outcome, Cause, _⇒_, outcome}
+use Rattle.tables.specs.Limits.{maxBuses, maxLines}
+use Rattle.tables.specs.Holds.{within, fairNeeds}
+use Rattle.format.specs.declared.Counts.{Counts}
+use Rattle.format.specs.Bytes.{busCount, needsEnd, needBytes, lineCount, recordsAt, fileEnd, firstEnd, secondEnd}
+
+-- the file ends before place i
+unfoldable pub endsBefore : ℕ → List ℕ → Bool
+endsBefore i f = ltb (length f) i
+
+-- bytes stand at place i or behind it
+unfoldable pub goesOn : ℕ → List ℕ → Bool
+goesOn i f = ltb i (length f)
+
+-- in file order: bus count complete, its range, needs complete, their range, line count complete, its range, records complete, end of file
+abbrev pub sectionCauses : List ℕ → List Cause
+sectionCauses f =
+    (endsBefore 2 f ⇒ FileTooShort)
+    ∷ (not (within 1 maxBuses (busCount f)) ⇒ BusCount)
+    ∷ (endsBefore (needsEnd f) f ⇒ FileTooShort)
+    ∷ (not (fairNeeds (needBytes f)) ⇒ Need)
+    ∷ (endsBefore (recordsAt f) f ⇒ FileTooShort)
+    ∷ (not (within 0 maxLines (lineCount f)) ⇒ LineCount)
+    ∷ (endsBefore (fileEnd f) f ⇒ FileTooShort)
+    ∷ (goesOn (fileEnd f) f ⇒ FileTooLong)
+    ∷ []
+
+-- n and m
+abbrev pub counts : List ℕ → Counts
+counts f = record { buses = busCount f; lines = lineCount f }
+
+abbrev pub sectionsOutcome : List ℕ → Outcome Counts
+sectionsOutcome f = outcome (sectionCauses f) (counts f)
+
+-- a and b are two different buses below n
+unfoldable pub twoBuses : ℕ → ℕ → ℕ → Bool
+twoBuses n a b = ltb a n && ltb b n && not (eqb a b)
+
+-- so are the ends of each of the first m records
+unfoldable pub soundEnds : ℕ → ℕ → List ℕ → Bool
+soundEnds n m r = allBelow m (λ k. twoBuses n (firstEnd r k) (secondEnd r k))

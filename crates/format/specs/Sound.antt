@@ -1,0 +1,91 @@
+-- What a file with sound sections satisfies, and that each test of record ends passes exactly where its facts hold: `…-facts` and `…-test`.
+-- Assumes nothing.
+use mathlib.Core.Bool.{true, not, _&&_}
+use mathlib.Core.List.{List}
+use mathlib.Core.Path.{_≡_}
+use Prim.Native.Nat.{ℕ, _*_, _≤_, _<_}
+use native.Mathlib.Nat.{le-antisymm}
+use native.Mathlib.Omega.{arith}
+use borrow.Author.Tests.{ltb-true, ltb-false, eqb-false, not-true, not-false, lt-ltb, ne-eqb}
+use lib.Dec.{ltb, eqb}
+use lib.ListN.{length}
+use Rattle.lists.specs.Tests.{and-left, and-right}
+use Rattle.lists.specs.Loops.{allBelow-at, allBelow-by}
+use Rattle.lists.specs.Places.{length-part}
+use Rattle.refusals.specs.Outcomes.{gives}
+use Rattle.refusals.specs.Causes.{no-cause}
+use Rattle.tables.specs.Limits.{maxBuses, maxLines, maxBytes}
+use Rattle.tables.specs.Holds.{fairNeeds}
+use Rattle.tables.specs.Facts.{within-facts}
+use Rattle.format.specs.declared.Counts.{Counts}
+use Rattle.format.specs.Bytes.{busCount, needsEnd, needBytes, lineCount, recordsAt, fileEnd, records, firstEnd, secondEnd}
+use Rattle.format.specs.Sections.{endsBefore, goesOn, sectionCauses, counts, sectionsOutcome, twoBuses, soundEnds}
+
+-- ---- the sections
+
+pub record Sound (f : List ℕ) : Type 0 where
+  pub some : 1 ≤ busCount f
+  pub buses : busCount f ≤ maxBuses
+  pub needs : fairNeeds (needBytes f) ≡ true
+  pub lines : lineCount f ≤ maxLines
+  pub size : length f ≡ fileEnd f
+
+-- a file that no cause refuses
+pub sections-sound : (f : List ℕ) {c : Counts} → sectionsOutcome f ≡ gives c → Sound f × (c ≡ counts f)
+unfolding endsBefore goesOn
+sections-sound f e =
+    let z = no-cause (sectionCauses f) (counts f) e in
+    let n = within-facts 1 maxBuses (busCount f) (not-false _ (z .0 .1 .0)) in (
+      record {
+        some = n .0;
+        buses = n .1;
+        needs = not-false _ (z .0 .1 .1 .1 .0);
+        lines = within-facts 0 maxLines (lineCount f) (not-false _ (z .0 .1 .1 .1 .1 .1 .0)) .1;
+        size = le-antisymm (ltb-false _ _ (z .0 .1 .1 .1 .1 .1 .1 .1 .0)) (ltb-false _ _ (z .0 .1 .1 .1 .1 .1 .1 .0));
+      },
+      z .1,
+    )
+
+module _ {f : List ℕ} (s : Sound f) where
+  pub length-needBytes : length (needBytes f) ≡ busCount f
+  unfolding needBytes
+  length-needBytes = omega (arith, length-part 2 (needsEnd f) f (omega (arith, s .size)))
+
+  pub length-records : length (records f) ≡ 4 * lineCount f
+  unfolding records
+  length-records = omega (arith, length-part (recordsAt f) (fileEnd f) f (omega (arith, s .size)))
+
+  -- no file is longer than the limit says
+  pub bytes-few : length f ≤ maxBytes
+  bytes-few = omega (arith, s .size, s .buses, s .lines)
+
+-- ---- the ends of records
+
+abbrev pub TwoBuses : ℕ → ℕ → ℕ → Type 0
+TwoBuses n a b = (a < n) × (b < n) × (a ≡ b → ⊥)
+
+abbrev pub SoundEnds : ℕ → ℕ → List ℕ → Type 0
+SoundEnds n m r = (k : ℕ) → k < m → TwoBuses n (firstEnd r k) (secondEnd r k)
+
+module _ (n a b : ℕ) where
+  pub two-facts : twoBuses n a b ≡ true → TwoBuses n a b
+  unfolding twoBuses
+  two-facts w =
+      let both = and-left (ltb a n && ltb b n) (not (eqb a b)) w in (
+        ltb-true a n (and-left (ltb a n) (ltb b n) both),
+        ltb-true b n (and-right (ltb a n) (ltb b n) both),
+        eqb-false a b (not-true (eqb a b) (and-right (ltb a n && ltb b n) (not (eqb a b)) w)),
+      )
+
+  pub two-test : TwoBuses n a b → twoBuses n a b ≡ true
+  unfolding twoBuses
+  two-test h = rw (lt-ltb a n (h .0), lt-ltb b n (h .1), ne-eqb a b (h .2))
+
+module _ (n m : ℕ) (r : List ℕ) where
+  pub ends-facts : soundEnds n m r ≡ true → SoundEnds n m r
+  unfolding soundEnds
+  ends-facts w k l = two-facts n (firstEnd r k) (secondEnd r k) (allBelow-at _ m w l)
+
+  pub ends-test : SoundEnds n m r → soundEnds n m r ≡ true
+  unfolding soundEnds
+  ends-test h = allBelow-by _ m (λ k l. two-test n (firstEnd r k) (secondEnd r k) (h k l))

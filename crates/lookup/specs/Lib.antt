@@ -1,0 +1,2 @@
+-- What an answer of Degree stands for.
+pub mod Answers

@@ -1,0 +1,40 @@
+// Degree and Row: how many neighbours a bus of a lent table has, and which.
+ghost use mathlib.Core.Path.{_≡_};
+ghost use Rattle.tables.specs.Answers.{degreeOutcome, rowOutcome};
+ghost use Rattle.lookup.specs.Answers.{degreeSays};
+pub use network::Refusal;
+use network::table::neighbours;
+use network::table::size;
+use table_test::holds;
+
+// How many neighbours a bus has, or why it is not said.
+pub enum BusDegree {
+    Is(usize),
+    Refused(Refusal),
+}
+
+// How many neighbours a bus of the lent table has.
+pub fn degree(table: &[u16], bus: usize) -> BusDegree
+    ensures { λ r. ⌜ degreeSays r ≡ degreeOutcome (now (table .entry)) bus ⌝ }
+{
+    if !holds(table) {
+        return BusDegree::Refused(Refusal::NoNetwork);
+    }
+    if size(table) <= bus {
+        return BusDegree::Refused(Refusal::NoSuchBus);
+    }
+    BusDegree::Is(neighbours(table, bus).len())
+}
+
+// The part of the lent table that holds a bus's neighbours; the empty part where `degree` refuses.
+pub fn row(table: &[u16], bus: usize) -> &[u16]
+    ensures { λ r. ⌜ now r ≡ rowOutcome (now (table .entry)) bus ⌝ }
+{
+    if !holds(table) {
+        return &table[..0];
+    }
+    if size(table) <= bus {
+        return &table[..0];
+    }
+    neighbours(table, bus)
+}

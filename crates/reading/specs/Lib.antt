@@ -1,0 +1,5 @@
+-- What Read answers and stores: definitions, computed examples, then laws and claims.
+pub mod Read
+pub mod Examples
+pub mod Deciding
+pub mod Recorded

@@ -1,0 +1,85 @@
+-- What Read stored is what the file records, and what it refused left the slice as it was. Assumes nothing.
+use mathlib.Core.Bool.{true}
+use mathlib.Core.List.{List, _++_}
+use mathlib.Core.Path.{_≡_, sym, ap, _∙_}
+use Prim.Native.Nat.{ℕ, _+_, _*_}
+use native.Mathlib.Omega.{arith}
+use lib.ListN.{length, drop}
+use Rattle.lists.specs.Lists.{has}
+use Rattle.lists.specs.Below.{joinBelow}
+use Rattle.refusals.specs.Outcomes.{gives, refuses, valuesOr}
+use Rattle.refusals.specs.Causes.{refuses-any}
+use Rattle.tables.specs.Layout.{tableOf}
+use Rattle.tables.specs.Holds.{Holds}
+use Rattle.tables.specs.Facts.{fair-facts}
+use Rattle.tables.specs.Laid.{length-tableOf, made-size, made-needs, made-last, made-row, made-holds}
+use Rattle.tables.specs.Lines.{two-for-each}
+use Rattle.format.specs.declared.Counts.{Counts}
+use Rattle.format.specs.Bytes.{busCount, needBytes, lineCount, records}
+use Rattle.format.specs.Sections.{counts, soundEnds}
+use Rattle.format.specs.Sound.{length-needBytes, ends-facts}
+use Rattle.records.specs.Records.{neighbours}
+use Rattle.records.specs.Pairs.{joined-sym, rows-length}
+use Rattle.records.specs.Neighbours.{neighbours-tidy, neighbours-short, neighbours-joined}
+use Rattle.reading.specs.Read.{readCauses, readOutcome, fileTable, storedTable, tableAfter, AsRecorded}
+use Rattle.reading.specs.Deciding.{whole, sound-ends, none-crowded, none-repeated, table-stored}
+
+-- a refused Read changes nothing
+pub kept : (f t : List ℕ) {k : ℕ} → readOutcome f (length t) ≡ refuses k → tableAfter f t ≡ t
+kept f t e = ap (valuesOr t) (refuses-any (readCauses f (length t)) (counts f) (storedTable f t) e)
+
+-- the file is accepted
+module _ (f t : List ℕ) {c : Counts} (e : readOutcome f (length t) ≡ gives c) where
+  abbrev n : ℕ
+  n = busCount f
+
+  abbrev m : ℕ
+  m = lineCount f
+
+  abbrev r : List ℕ
+  r = records f
+
+  ends : soundEnds n m r ≡ true
+  ends = sound-ends f t e
+
+  abbrev q : List ℕ
+  q = needBytes f
+
+  abbrev rows : ℕ → List ℕ
+  rows = neighbours n m r
+
+  abbrev rest : List ℕ
+  rest = drop (length (fileTable f)) t
+
+  stored : tableAfter f t ≡ tableOf n q rows ++ rest
+  unfolding storedTable fileTable
+  stored = table-stored f t e
+
+  long : length q ≡ n
+  long = length-needBytes (whole f t e)
+
+  held : Holds (tableOf n q rows ++ rest)
+  held =
+      made-holds n q rows rest long (whole f t e .some) (whole f t e .buses) (fair-facts q (whole f t e .needs))
+      (λ i b. neighbours-tidy n m r ends i) (neighbours-short n m r ends (none-crowded f t e))
+      (λ i j b c. neighbours-joined n m r ends i j ∙ joined-sym m r i j ∙ sym (neighbours-joined n m r ends j i))
+
+  numbers : length (joinBelow n rows) ≡ 2 * m
+  numbers = rows-length n m r (ends-facts n m r ends) (none-repeated f t e)
+
+  -- the table has as many entries as refusal 10 asks for
+  pub entries : length (fileTable f) ≡ 2 * n + 2 + 2 * m
+  unfolding fileTable
+  entries = omega (arith, length-tableOf n q rows long, numbers)
+
+  -- the slice holds exactly what the file records
+  pub recorded : AsRecorded f (tableAfter f t)
+  recorded =
+      rw stored
+      record {
+        holding = held;
+        buses = made-size n q rows rest long;
+        needed = made-needs n q rows rest long;
+        lined = omega (arith, two-for-each _ held, made-last n q rows rest long, numbers);
+        joining = λ i j b. ap (has j) (made-row n q rows rest long i b) ∙ neighbours-joined n m r ends i j;
+      }

@@ -1,0 +1,49 @@
+-- Answers of Shares and Share, computed. Assumes nothing.
+use mathlib.Core.List.{List, [], _∷_, map}
+use mathlib.Core.Path.{_≡_, refl}
+use Prim.Native.Nat.{ℕ}
+use lib.ListN.{length}
+use Rattle.lists.specs.Lists.{at}
+use Rattle.lists.specs.Below.{allBelow, largestBelow, joinBelow, mapBelow}
+use Rattle.refusals.specs.Outcomes.{Outcome, gives, refuses}
+use Rattle.fraction.specs.Divisors.{gcdOf, lcmOf, lcmAll}
+use Rattle.game.specs.Game.{ownTerm, neighbourTerm}
+use Rattle.tables.specs.Layout.{rowAt, needs, starts, links, row}
+use Rattle.tables.specs.Holds.{within, complete, fairNeeds, neverFall, shortRows, tidy, tidyRow, tidyRows, soundRows, mirrored, twoWay, holds}
+use Rattle.tables.specs.Examples.{path}
+use Rattle.formula.specs.Formula.{largestDegree, denominator, ownOf, neighbourOf, numerator}
+use Rattle.shares.specs.Answers.{sharesOutcome, storedNumerators, numeratorsAfter, shareOutcome}
+
+-- a table, entries lent, the answer of Shares, and the entries after it
+record Case : Type 0 where
+  table : List ℕ
+  lent : List ℕ
+  answer : Outcome ℕ
+  after : List ℕ
+
+case : List ℕ → List ℕ → Outcome ℕ → List ℕ → Case
+case t lent answer after = record { table = t; lent = lent; answer = answer; after = after }
+
+cases : List Case
+unfolding path case
+cases =
+    case (path 1) (9 ∷ 9 ∷ 9 ∷ []) (gives 6) (5 ∷ 8 ∷ 5 ∷ [])
+    ∷ case (path 2) (9 ∷ 9 ∷ 9 ∷ 9 ∷ 7 ∷ []) (gives 6) (4 ∷ 10 ∷ 4 ∷ 9 ∷ 7 ∷ [])
+    ∷ case (1 ∷ 24 ∷ 0 ∷ 0 ∷ 5 ∷ []) (9 ∷ 9 ∷ []) (gives 1) (1 ∷ 9 ∷ [])
+    -- an entry too few; no network, whatever is lent
+    ∷ case (path 1) (9 ∷ 9 ∷ []) (refuses 12) (9 ∷ 9 ∷ [])
+    ∷ case [] [] (refuses 11) []
+    ∷ case (path 0) (9 ∷ 9 ∷ 9 ∷ []) (refuses 11) (9 ∷ 9 ∷ 9 ∷ [])
+    -- both: 11, which is tested first
+    ∷ case (path 0) (9 ∷ 9 ∷ []) (refuses 11) (9 ∷ 9 ∷ [])
+    ∷ []
+
+all-shares : map (λ c. let x = c .lent in case (c .table) x (sharesOutcome (c .table) (length x)) (numeratorsAfter (c .table) x)) cases ≡ cases
+unfolding cases storedNumerators numerator ownOf neighbourOf ownTerm neighbourTerm denominator largestDegree largestBelow lcmAll lcmOf gcdOf mapBelow joinBelow holds twoWay complete within fairNeeds soundRows neverFall shortRows tidyRows tidyRow tidy mirrored rowAt needs starts links row at allBelow
+all-shares = refl
+
+one-share :
+    (map (shareOutcome (path 3)) (0 ∷ 1 ∷ 2 ∷ 3 ∷ []) ≡ gives (3, 6) ∷ gives (12, 6) ∷ gives (3, 6) ∷ refuses 13 ∷ [])
+    × (map (shareOutcome (path 0)) (0 ∷ 3 ∷ []) ≡ refuses 11 ∷ refuses 11 ∷ [])
+unfolding path numerator ownOf neighbourOf ownTerm neighbourTerm denominator largestDegree largestBelow lcmAll lcmOf gcdOf mapBelow joinBelow holds twoWay complete within fairNeeds soundRows neverFall shortRows tidyRows tidyRow tidy mirrored rowAt needs starts links row at allBelow
+one-share = (refl, refl)

@@ -1,0 +1,2 @@
+-- What the helpers of the mirror test promise one another.
+pub mod Cursors
