@@ -40,6 +40,10 @@ has-cons x y l =
 pub count-append : (x : ℕ) (l m : List ℕ) → count x (l ++ m) ≡ count x l + count x m
 count-append x l m = sumBy-append (λ y. tally (eqb x y)) l m
 
+pub count-few : (x : ℕ) (l : List ℕ) → count x l ≤ length l
+count-few x [] = omega arith
+count-few x (y ∷ l) = split (eqb x y) (λ e. rw e (omega (arith, count-few x l))) (λ e. rw e (omega (arith, count-few x l)))
+
 pub count-without : (x : ℕ) (s l : List ℕ) → count x (without s l) ≡ cond (has x s) 0 (count x l)
 count-without x s [] = split (has x s) (λ e. rw e) (λ e. rw e)
 count-without x s (y ∷ l) =

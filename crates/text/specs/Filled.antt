@@ -13,7 +13,7 @@ use Rattle.lists.specs.Lists.{at, count}
 use Rattle.lists.specs.Tests.{split}
 use Rattle.lists.specs.Counts.{count-append}
 use Rattle.lists.specs.Places.{at-drop, take-next}
-use Rattle.text.specs.Text.{decimal, sign, filled}
+use Rattle.text.specs.Text.{decimal, Words, sign, filled}
 use Rattle.text.specs.Decimal.{decimal-few}
 
 -- a template in two parts: the second takes the numbers that the first leaves
@@ -25,17 +25,17 @@ filled-append (byte ∷ s) t values =
     (λ e. rw e (ap (λ l. decimal (at values 0) ++ l) (filled-append s t (drop 1 values) ∙ ap (λ l. filled s (drop 1 values) ++ filled t l) (drop-drop (count sign s) 1 values)) ∙ sym (append-assoc (decimal (at values 0)) _ _)))
     (λ e. rw (e, zero-add) (ap (λ l. byte ∷ l) (filled-append s t values)))
 
--- with numbers below ten to the 20 each byte gives at most 20
-pub filled-few : (t values : List ℕ) → ((k : ℕ) → at values k < 10 ^ 20) → length (filled t values) ≤ 20 * length t
+-- a 64-bit number takes the place of its `#` with at most 20 digits
+pub filled-few : (t values : List ℕ) → Words values → length (filled t values) + count sign t ≤ length t + 20 * count sign t
 unfolding filled
-filled-few [] values h = omega arith
-filled-few (byte ∷ t) values h =
+filled-few [] values w = omega arith
+filled-few (byte ∷ t) values w =
     split (eqb sign byte)
     (λ e.
-    let long = length-append (decimal (at values 0)) (filled t (drop 1 values)) in
-    let rest = filled-few t (drop 1 values) (λ k. rw at-drop (h (1 + k))) in
-    rw e (omega (arith, long, decimal-few 19 (at values 0) (h 0), rest)))
-    (λ e. rw e (omega (arith, filled-few t values h)))
+    let digits = decimal-few 19 (at values 0) (omega (arith, w .each 0)) in
+    let rest = filled-few t (drop 1 values) (record { each = λ k. rw at-drop (w .each (1 + k)) }) in
+    rw e (omega (arith, length-append (decimal (at values 0)) (filled t (drop 1 values)), digits, rest)))
+    (λ e. rw e (omega (arith, filled-few t values w)))
 
 -- a part of a template has no more bytes and numbers than the whole
 module _ (t : List ℕ) (k : ℕ) where

@@ -2,7 +2,7 @@
 -- Definitions only. Assumes nothing.
 use mathlib.Core.Bool.{Bool, true, false, cond}
 use mathlib.Core.List.{List, [], _∷_, _++_}
-use Prim.Native.Nat.{ℕ, zero, suc, _+_, _/_, _%_}
+use Prim.Native.Nat.{ℕ, zero, suc, _+_, _/_, _%_, _^_, _<_}
 use lib.Dec.{ltb, eqb}
 use lib.ListN.{drop}
 use Rattle.lists.specs.Lists.{tally, at}
@@ -21,6 +21,10 @@ spelled (suc more) false n = spelled more (ltb (n / 10) 10) (n / 10) ++ (digit (
 -- n in decimal without leading zeros
 unfoldable pub decimal : ℕ → List ℕ
 decimal n = spelled n (ltb n 10) n
+
+-- a list of 64-bit numbers
+pub record Words (l : List ℕ) : Type 0 where
+  pub each : (k : ℕ) → at l k < 2 ^ 64
 
 -- ---- templates
 

@@ -1,6 +1,6 @@
 // Text in ASCII, written into a lent slice: numbers in decimal, and templates in which each `#` stands for a number.
 ghost use mathlib.Core.Path.{_≡_};
-ghost use Prim.Native.Nat.{_+_, _*_, _^_, _≤_, _<_};
+ghost use Prim.Native.Nat.{_+_, _^_, _≤_, _<_};
 ghost use lib.ListN.{length};
 ghost use Rattle.lists.specs.Lists.{count, put};
 ghost use Rattle.text.specs.Text.{decimal, sign, filled};
@@ -36,7 +36,7 @@ fn decimal(value: u64, out: &mut [u8], at: usize) -> usize
 // How many bytes a template has with its numbers.
 pub fn measure(template: &[u8], values: &[u64]) -> usize
     requires { ⌜ (count sign (now template) ≤ length (now values)) × (length (now template) < 2 ^ 32) ⌝ }
-    ensures { λ r. ⌜ (r ≡ length (filled (now (template .entry)) (now (values .entry)))) × (r ≤ 20 * length (now (template .entry))) ⌝ }
+    ensures { λ r. ⌜ r ≡ length (filled (now (template .entry)) (now (values .entry))) ⌝ }
 {
     let mut bytes = 0;
     let mut next = 0;

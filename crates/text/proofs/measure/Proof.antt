@@ -8,6 +8,7 @@ use Prim.Native.Nat.{_+_, _-_, _*_, _≤_, _<_}
 use lib.ListN.{length, take}
 use lib.Seq.{take-all}
 use Rattle.lists.specs.Lists.{at, count, put}
+use Rattle.lists.specs.Counts.{count-few}
 use Rattle.text.specs.Text.{decimal, sign, filled}
 use Rattle.text.specs.Filled.{filled-few, Turn, sign-turn, sign-there, byte-turn}
 use Rattle.text.proofs.measure.Statement.{statement}
@@ -46,7 +47,9 @@ plain c = let v = c .before .before .before in byte-turn _ _ _ (v .loop .inv .1)
 -- the whole has at most 20 times as many bytes as the template
 few : (v : tie.At-loop Inv-loop μ-loop) → let a = v .before .before .before .args in length (filled (a .template .now) (a .values .now)) ≤ 20 * length (a .template .now)
 unfolding at
-few v = filled-few _ _ (λ k. omega (arith, v .before .shared-slice-known2 .given k))
+few v =
+    let a = v .before .before .before .args in
+    omega (arith, filled-few (a .template .now) (a .values .now) (record { each = λ k. omega (arith, v .before .shared-slice-known2 .given k) }), count-few sign (a .template .now))
 
 add-bytes : tie.Need-add-bytes Inv-loop μ-loop
 unfolding at
@@ -75,8 +78,7 @@ loop-again c =
 returns : tie.Need-returns Inv-loop μ-loop
 returns c =
     let a = c .before .before .before .before .args in
-    let whole = c .before .loop .inv .2 ∙ ap (λ t. length (filled t (a .values .now))) (take-all _ _ (c .loop-test .left)) in
-    (whole, omega (arith, whole, few (c .before)))
+    c .before .loop .inv .2 ∙ ap (λ t. length (filled t (a .values .now))) (take-all _ _ (c .loop-test .left))
 
 pub measure-spec : {M : Type 1} → statement M
 measure-spec =
