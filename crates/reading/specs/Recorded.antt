@@ -11,8 +11,9 @@ use Rattle.refusals.specs.Outcomes.{gives, refuses, valuesOr}
 use Rattle.refusals.specs.Causes.{refuses-any}
 use Rattle.tables.specs.Layout.{tableOf}
 use Rattle.tables.specs.Holds.{Holds}
+use Rattle.tables.specs.Answers.{Alike}
 use Rattle.tables.specs.Facts.{fair-facts}
-use Rattle.tables.specs.Laid.{length-tableOf, made-size, made-needs, made-last, made-row, made-holds}
+use Rattle.tables.specs.Laid.{length-tableOf, made-size, made-needs, made-last, made-row, made-holds, made-beyond}
 use Rattle.tables.specs.Lines.{two-for-each}
 use Rattle.format.specs.declared.Counts.{Counts}
 use Rattle.format.specs.Bytes.{busCount, needBytes, lineCount, records}
@@ -83,3 +84,8 @@ module _ (f t : List ℕ) {c : Counts} (e : readOutcome f (length t) ≡ gives c
         lined = omega (arith, two-for-each _ held, made-last n q rows rest long, numbers);
         joining = λ i j b. ap (has j) (made-row n q rows rest long i b) ∙ neighbours-joined n m r ends i j;
       }
+
+  -- and to every call the file's table, whatever stands behind it
+  pub stored-alike : Alike (tableAfter f t) (fileTable f)
+  unfolding fileTable
+  stored-alike = rw stored (made-beyond n q rows long rest)

@@ -10,8 +10,10 @@ use Rattle.lists.specs.Places.{at-append, at-behind, part-between}
 use Rattle.lists.specs.Loops.{joinBelow-next}
 use Rattle.lists.specs.Range.{length-mapBelow, mapBelow-at, joinBelow-at, mapBelow-same, joinBelow-same}
 use Rattle.tables.specs.Limits.{maxBuses, maxDegree}
-use Rattle.tables.specs.Layout.{rowAt, laid, size, needs, starts, last, links, startsAt, row, tableOf}
+use Rattle.tables.specs.Layout.{rowAt, laid, size, needs, starts, last, entries, links, startsAt, row, tableOf}
 use Rattle.tables.specs.Holds.{FairNeeds, TidyRow, SoundRows, Holds}
+use Rattle.tables.specs.Answers.{Alike}
+use Rattle.tables.specs.Beyond.{beyond}
 
 module _ (n : ℕ) (rows : ℕ → List ℕ) where
   abbrev firsts : List ℕ
@@ -130,3 +132,13 @@ module _ (n : ℕ) (q : List ℕ) (rows : ℕ → List ℕ) (rest : List ℕ) (l
         rows = rows-sound n rows (n ∷ q) rest shape begin made-size tidy short;
         mirrored = λ i j b c. ap (has j) (made-row i b) ∙ mirror i j b c ∙ sym (ap (has i) (made-row j c));
       }
+
+-- what follows a table that was made never matters
+module _ (n : ℕ) (q : List ℕ) (rows : ℕ → List ℕ) (long : length q ≡ n) where
+  made-whole : entries (startsAt (tableOf n q rows)) (tableOf n q rows) ≤ length (tableOf n q rows)
+  made-whole =
+      let a = append-nil (tableOf n q rows) in
+      omega (arith, rw a at (made-size n q rows [] long), rw a at (made-last n q rows [] long), length-tableOf n q rows long)
+
+  pub made-beyond : (rest : List ℕ) → Alike (tableOf n q rows ++ rest) (tableOf n q rows)
+  made-beyond rest = rw append-nil at (beyond (tableOf n q rows) rest [] made-whole)

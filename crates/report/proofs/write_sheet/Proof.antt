@@ -1,0 +1,26 @@
+-- `report::write_sheet` meets its contract. Assumes nothing.
+use borrow.Author.Needs.{needs}
+use native.Mathlib.Omega.{arith}
+use Prim.Native.Nat.{ℕ}
+use lib.ListN.{replicate, length-replicate}
+use Rattle.tables.specs.Limits.{maxBuses}
+use Rattle.report.specs.Lines.{scored}
+use Rattle.report.proofs.write_sheet.Statement.{statement}
+use Rattle.report.proofs.write_sheet.Tie as tie
+
+write-lines-requires : tie.Need-write-lines-requires
+write-lines-requires c κs =
+    let q = c .before .before .before in
+    let s = q .before .before .before .before in
+    (scored _ (replicate maxBuses 0) (s .pre .0) (omega (arith, s .pre .0 .complete .most, length-replicate {A = ℕ} maxBuses 0)) (q .score .ensures .0) (q .score .ensures .1), s .pre .1)
+
+pub write-sheet-spec : {M : Type 1} → statement M
+write-sheet-spec =
+    tie.close
+    (tie.spec
+    (λ c. search needs)
+    (λ c κs. search needs)
+    (λ c. search needs)
+    write-lines-requires
+    (λ c. search needs)
+    (λ c. search needs))

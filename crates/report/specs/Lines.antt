@@ -1,0 +1,48 @@
+-- How long lines may be, and lines and numerators as code writes and stores them. Assumes nothing.
+use mathlib.Core.List.{List, [], _∷_}
+use mathlib.Core.Path.{_≡_, ap, _∙_}
+use Prim.Native.Nat.{ℕ, _+_, _≤_}
+use native.Mathlib.Omega.{arith}
+use lib.ListN.{length}
+use Rattle.lists.specs.Lists.{at, put}
+use Rattle.lists.specs.Below.{mapBelow}
+use Rattle.lists.specs.Places.{at-append}
+use Rattle.lists.specs.Range.{length-mapBelow, mapBelow-at}
+use Rattle.lists.specs.Writes.{put-front, length-put}
+use Rattle.tables.specs.Layout.{size}
+use Rattle.tables.specs.Holds.{Holds}
+use Rattle.formula.specs.Formula.{denominator, numerator}
+use Rattle.text.specs.Text.{Words, filled}
+use Rattle.text.specs.Filled.{filled-few}
+use Rattle.sheet.specs.Sheet.{headingForm, busForm, sheetLine}
+use Rattle.report.specs.Report.{longestLine, Scored, refusedForm}
+
+module _ (numbers : List ℕ) (w : Words numbers) where
+  pub heading-few : length (filled headingForm numbers) ≤ longestLine
+  heading-few = omega (arith, filled-few headingForm numbers w)
+
+  pub bus-few : length (filled busForm numbers) ≤ longestLine
+  bus-few = omega (arith, filled-few busForm numbers w)
+
+  pub refused-few : length (filled refusedForm numbers) ≤ longestLine
+  refused-few = omega (arith, filled-few refusedForm numbers w)
+
+-- a text that is line i of t's sheet was written into x from place a on, and r is the place behind it
+pub line-written : (t x : List ℕ) (i a : ℕ) {text y : List ℕ} {r : ℕ} → text ≡ sheetLine t i → length text ≤ longestLine → r ≡ a + length text → y ≡ put x a text
+    → ((r ≡ a + length (sheetLine t i)) × (r ≤ a + longestLine)) × (y ≡ put x a (sheetLine t i))
+line-written t x i a e few p w = ((p ∙ ap (λ l. a + length l) e, omega (arith, p, few)), w ∙ ap (put x a) e)
+
+-- the numerators of a network were stored at the front of x
+pub scored : (t x : List ℕ) {L : ℕ} {numerators : List ℕ} → Holds t → size t ≤ length x → L ≡ denominator t → numerators ≡ put x 0 (mapBelow (size t) (numerator t))
+    → Scored t L numerators
+scored t x {numerators = numerators} w l e p =
+    let first = length-mapBelow (size t) (numerator t) in
+    record {
+      holding = w;
+      over = e;
+      long = omega (arith, ap length p, length-put x 0 (mapBelow (size t) (numerator t)) (omega (arith, first)));
+      each = λ i b.
+          ap (λ l. at l i) (p ∙ put-front x (mapBelow (size t) (numerator t)))
+          ∙ at-append (mapBelow (size t) (numerator t)) _ i (omega (arith, first))
+          ∙ mapBelow-at (numerator t) (size t) b;
+    }

@@ -1,0 +1,21 @@
+-- What is printed once Read has answered. Assumes nothing.
+use mathlib.Core.List.{List}
+use mathlib.Core.Path.{_≡_, sym, ap, _∙_}
+use Prim.Native.Nat.{ℕ}
+use lib.ListN.{length}
+use Rattle.refusals.specs.Outcomes.{gives, refuses}
+use Rattle.tables.specs.Limits.{maxEntries}
+use Rattle.format.specs.declared.Counts.{Counts}
+use Rattle.reading.specs.Read.{readOutcome, fileTable, tableAfter}
+use Rattle.reading.specs.Recorded.{stored-alike}
+use Rattle.sheet.specs.Sheet.{wholeSheet}
+use Rattle.sheet.specs.Same.{same-sheet}
+use Rattle.report.specs.Report.{refusedLine, sheetOr, printed}
+
+-- Read was lent x, which has room for any table
+module _ (f x : List ℕ) (room : length x ≡ maxEntries) where
+  pub print-sheet : {c : Counts} → readOutcome f (length x) ≡ gives c → wholeSheet (tableAfter f x) ≡ printed f
+  print-sheet e = same-sheet (stored-alike f x e) ∙ sym (ap (λ o. sheetOr o (wholeSheet (fileTable f))) (rw room at e))
+
+  pub print-refusal : {k : ℕ} → readOutcome f (length x) ≡ refuses k → refusedLine k ≡ printed f
+  print-refusal e = sym (ap (λ o. sheetOr o (wholeSheet (fileTable f))) (rw room at e))

@@ -1,0 +1,44 @@
+-- What the sheet program prints for a file. Definitions only. Assumes nothing.
+use mathlib.Core.List.{List, [], _∷_}
+use mathlib.Core.Path.{_≡_}
+use Prim.Native.Nat.{ℕ, _+_, _*_, _≤_}
+use lib.ListN.{length}
+use Rattle.refusals.specs.Outcomes.{Outcome, gives, refuses}
+use Rattle.text.specs.Text.{filled}
+use Rattle.lists.specs.Lists.{Tabled}
+use Rattle.tables.specs.Layout.{size}
+use Rattle.tables.specs.Holds.{Holds}
+use Rattle.formula.specs.Formula.{denominator, numerator}
+use Rattle.tables.specs.Limits.{maxBuses, maxEntries}
+use Rattle.reading.specs.Read.{readOutcome, fileTable}
+use Rattle.sheet.specs.Sheet.{wholeSheet}
+
+-- bytes of the longest line that 64-bit numbers can make, and of the longest sheet of such lines
+abbrev pub longestLine : ℕ
+longestLine = 126
+
+abbrev pub longestSheet : ℕ
+longestSheet = longestLine * (1 + maxBuses)
+
+-- the slice t holds a network that is scored: its L, and the numerators of its buses
+pub record Scored (t : List ℕ) (L : ℕ) (numerators : List ℕ) : Type 0 where
+  pub holding : Holds t
+  pub over : L ≡ denominator t
+  pub long : size t ≤ length numerators
+  pub each : Tabled (size t) (numerator t) numerators
+
+-- `refused #`, ended by byte 10
+abbrev pub refusedForm : List ℕ
+refusedForm = 114 ∷ 101 ∷ 102 ∷ 117 ∷ 115 ∷ 101 ∷ 100 ∷ 32 ∷ 35 ∷ 10 ∷ []
+
+abbrev pub refusedLine : ℕ → List ℕ
+refusedLine number = filled refusedForm (number ∷ [])
+
+-- a sheet, or the number of the refusal
+abbrev pub sheetOr : {A : Type 0} → Outcome A → List ℕ → List ℕ
+sheetOr (gives counts) sheet = sheet
+sheetOr (refuses number) sheet = refusedLine number
+
+-- the sheet of the file's network, or why Read refuses the file; the slice that Read is lent has room for any table
+abbrev pub printed : List ℕ → List ℕ
+printed f = sheetOr (readOutcome f maxEntries) (wholeSheet (fileTable f))
