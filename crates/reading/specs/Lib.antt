@@ -3,3 +3,4 @@ pub mod Read
 pub mod Examples
 pub mod Deciding
 pub mod Recorded
+pub mod Front

@@ -1,0 +1,93 @@
+-- One byte more than the largest file has suffices to judge a file: a longer one is refused, whatever stands behind. Assumes nothing.
+use mathlib.Core.Bool.{true, false, not, cond}
+use mathlib.Core.List.{List, _++_}
+use mathlib.Core.Path.{_≡_, sym, ap, ap₂, _∙_}
+use Prim.Native.Nat.{ℕ, _+_, _≤_, _<_}
+use native.Mathlib.Omega.{arith}
+use borrow.Author.Tests.{leb-true, leb-false, lt-ltb, le-ltb}
+use lib.Dec.{leb}
+use lib.ListN.{length, take, drop, take-append-drop}
+use lib.Seq.{take-all, length-take-le}
+use Rattle.lists.specs.Lists.{at, part}
+use Rattle.lists.specs.Tests.{split}
+use Rattle.lists.specs.Places.{at-take, part-append}
+use Rattle.refusals.specs.Outcomes.{refuses, outcome}
+use Rattle.tables.specs.Limits.{maxBuses, maxLines, maxBytes}
+use Rattle.tables.specs.Holds.{within, fairNeeds}
+use Rattle.tables.specs.Facts.{within-facts}
+use Rattle.format.specs.Bytes.{wordAt, busCount, needsEnd, needBytes, lineCount, recordsAt, fileEnd}
+use Rattle.format.specs.Sections.{endsBefore, goesOn, sectionCauses}
+use Rattle.reading.specs.Read.{readOutcome}
+
+-- why a file that is longer than the largest is refused: by its front
+abbrev pub longNumber : List ℕ → ℕ
+longNumber f =
+    cond (within 1 maxBuses (busCount f)) (cond (fairNeeds (needBytes f)) (cond (within 0 maxLines (lineCount f)) 5 4) 3) 2
+
+pub long-refused : (f : List ℕ) (lent : ℕ) → maxBytes < length f → readOutcome f lent ≡ refuses (longNumber f)
+unfolding endsBefore goesOn
+long-refused f lent l =
+    split (within 1 maxBuses (busCount f))
+    (λ wn.
+    let n = within-facts 1 maxBuses (busCount f) wn .1 in
+    split (fairNeeds (needBytes f))
+    (λ wf.
+    split (within 0 maxLines (lineCount f))
+    (λ wm.
+    let m = within-facts 0 maxLines (lineCount f) wm .1 in
+    rw (
+      le-ltb (length f) 2 (omega arith),
+      wn,
+      le-ltb (length f) (needsEnd f) (omega arith),
+      wf,
+      le-ltb (length f) (recordsAt f) (omega arith),
+      wm,
+      le-ltb (length f) (fileEnd f) (omega arith),
+      lt-ltb (fileEnd f) (length f) (omega arith),
+    ))
+    (λ wm. rw (le-ltb (length f) 2 (omega arith), wn, le-ltb (length f) (needsEnd f) (omega arith), wf, le-ltb (length f) (recordsAt f) (omega arith), wm)))
+    (λ wf. rw (le-ltb (length f) 2 (omega arith), wn, le-ltb (length f) (needsEnd f) (omega arith), wf)))
+    (λ wn. rw (le-ltb (length f) 2 (omega arith), wn))
+
+-- the bytes of a longer file that suffice
+module _ (f : List ℕ) (l : maxBytes < length f) where
+  abbrev front : List ℕ
+  front = take (maxBytes + 1) f
+
+  long-front : length front ≡ maxBytes + 1
+  long-front = length-take-le (maxBytes + 1) f (omega arith)
+
+  same-word : (i : ℕ) → i < maxBytes → wordAt front i ≡ wordAt f i
+  unfolding wordAt
+  same-word i h = rw (at-take (maxBytes + 1) f i (omega arith), at-take (maxBytes + 1) f (i + 1) (omega arith))
+
+  same-part : (a e : ℕ) → e ≤ maxBytes → part a e front ≡ part a e f
+  same-part a e h =
+      sym (part-append a e front (drop (maxBytes + 1) f) (omega (arith, long-front))) ∙ ap (part a e) (take-append-drop (maxBytes + 1) f)
+
+  same-buses : busCount front ≡ busCount f
+  same-buses = same-word 0 (omega arith)
+
+  module _ (n : busCount f ≤ maxBuses) where
+    same-needs : needBytes front ≡ needBytes f
+    unfolding needBytes
+    same-needs = rw same-buses (same-part 2 (needsEnd f) (omega arith))
+
+    same-count : lineCount front ≡ lineCount f
+    same-count = rw same-buses (same-word (needsEnd f) (omega arith))
+
+  same-number : longNumber front ≡ longNumber f
+  same-number =
+      split (within 1 maxBuses (busCount f))
+      (λ w. let n = within-facts 1 maxBuses (busCount f) w .1 in rw (same-count n, same-needs n, same-buses, w))
+      (λ w. rw (same-buses, w))
+
+  pub front-refused : (lent : ℕ) → readOutcome front lent ≡ refuses (longNumber f)
+  front-refused lent = long-refused front lent (omega (arith, long-front)) ∙ ap refuses same-number
+
+-- THE FRONT SUFFICES
+pub front-read : (f : List ℕ) (lent : ℕ) → readOutcome (take (maxBytes + 1) f) lent ≡ readOutcome f lent
+front-read f lent =
+    split (leb (length f) (maxBytes + 1))
+    (λ e. ap (λ f. readOutcome f lent) (take-all (maxBytes + 1) f (leb-true (length f) (maxBytes + 1) e)))
+    (λ e. let l : maxBytes < length f = omega (arith, leb-false (length f) (maxBytes + 1) e) in front-refused f l lent ∙ sym (long-refused f lent l))
