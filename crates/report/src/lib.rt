@@ -58,7 +58,7 @@ fn write_line(
 // Writes sheet lines 0 to n at the front, and gives the place behind them.
 fn write_lines(table: &[u16], over: u64, numerators: &[u64], out: &mut [u8]) -> usize
     requires { ⌜ Scored (now table) over (now numerators) × (longestSheet ≤ length (now out)) ⌝ }
-    ensures { λ r. ⌜ r ≡ length (wholeSheet (now (table .entry))) ⌝ }
+    ensures { λ r. ⌜ (r ≡ length (wholeSheet (now (table .entry)))) × (r ≤ longestSheet) ⌝ }
     ensures { λ _. ⌜ now (out .exit) ≡ put (now (out .entry)) 0 (wholeSheet (now (table .entry))) ⌝ }
 {
     let n = size(table);
@@ -74,7 +74,7 @@ fn write_lines(table: &[u16], over: u64, numerators: &[u64], out: &mut [u8]) -> 
 // Writes the sheet of a network. The table is not tested, and its L is found once.
 pub fn write_sheet(table: &[u16], out: &mut [u8]) -> usize
     requires { ⌜ Holds (now table) × (longestSheet ≤ length (now out)) ⌝ }
-    ensures { λ r. ⌜ r ≡ length (wholeSheet (now (table .entry))) ⌝ }
+    ensures { λ r. ⌜ (r ≡ length (wholeSheet (now (table .entry)))) × (r ≤ longestSheet) ⌝ }
     ensures { λ _. ⌜ now (out .exit) ≡ put (now (out .entry)) 0 (wholeSheet (now (table .entry))) ⌝ }
 {
     let mut numerators = [0u64; Network::BUSES];
@@ -85,7 +85,7 @@ pub fn write_sheet(table: &[u16], out: &mut [u8]) -> usize
 // Writes the line of a refused file.
 fn write_refusal(cause: Refusal, out: &mut [u8]) -> usize
     requires { ⌜ longestLine ≤ length (now out) ⌝ }
-    ensures { λ r. ⌜ r ≡ length (refusedLine (numberOf cause)) ⌝ }
+    ensures { λ r. ⌜ (r ≡ length (refusedLine (numberOf cause))) × (r ≤ longestLine) ⌝ }
     ensures { λ _. ⌜ now (out .exit) ≡ put (now (out .entry)) 0 (refusedLine (numberOf cause)) ⌝ }
 {
     fill(b"refused #\n", &[cause.number() as u64], out, 0)
@@ -93,7 +93,7 @@ fn write_refusal(cause: Refusal, out: &mut [u8]) -> usize
 
 // Writes what the program prints for a file at the front of a buffer, and gives its byte count.
 pub fn report(file: &[u8], out: &mut [u8; Longest::SHEET]) -> usize
-    ensures answer { λ r. ⌜ r ≡ length (printed (now (file .entry))) ⌝ }
+    ensures answer { λ r. ⌜ (r ≡ length (printed (now (file .entry)))) × (r ≤ length (now (out .exit))) ⌝ }
     ensures text { λ _. ⌜ now (out .exit) ≡ put (now (out .entry)) 0 (printed (now (file .entry))) ⌝ }
 {
     let mut table = [0u16; Network::ENTRIES];

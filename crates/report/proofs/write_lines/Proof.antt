@@ -67,7 +67,7 @@ returns c =
     let s = v .before .before .before .before .before in
     let all : v .loop .i ≡ size (s .args .table .now) + 1 = omega (arith, v .before .size .ensures .0, v .loop .inv .0, c .loop-test .left) in
     let e = ap (λ i. joinBelow i (sheetLine (s .args .table .now))) all in
-    (omega (arith, v .loop .inv .1, ap length e), v .loop .inv .3 ∙ ap (put _ 0) e)
+    ((omega (arith, v .loop .inv .1, ap length e), omega (arith, v .loop .inv .2, v .loop .inv .0, few v)), v .loop .inv .3 ∙ ap (put _ 0) e)
 
 pub write-lines-spec : {M : Type 1} → statement M
 write-lines-spec =
