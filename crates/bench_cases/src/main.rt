@@ -1,0 +1,2 @@
+// 01's bench cases: the starred ones are a claim of specs/.
+fn main() {}
