@@ -21,12 +21,19 @@ use text::say_entries;
 use text::say_number;
 use text::say_refused;
 
-// What lent entries hold before a call, and no call stores here.
+// What lent entries hold before a call, and none of these calls stores.
 const MARK: u16 = 54321;
 
-const MARK64: u64 = 54321;
+const NUMERATOR_MARK: u64 = 54321;
 
-// How many entries there are up to the last that a call changed.
+// More entries, numerators and bytes than any case needs.
+const ENTRIES: usize = 2048;
+
+const NUMERATORS: usize = 32;
+
+const BYTES: usize = 1024;
+
+// Up to where a call changed entries: those beyond hold the mark.
 fn changed(entries: &[u16]) -> usize
     ensures { λ r. ⌜ r ≤ length (now (entries .entry)) ⌝ }
 {
@@ -46,7 +53,7 @@ fn changed_numerators(numerators: &[u64]) -> usize {
     let mut end = 0;
     let mut i = 0;
     while i < numerators.len() {
-        if numerators[i] != MARK64 {
+        if numerators[i] != NUMERATOR_MARK {
             end = i + 1;
         }
         i += 1;
@@ -54,18 +61,52 @@ fn changed_numerators(numerators: &[u64]) -> usize {
     end
 }
 
-// Cancels a fraction.
+// How many numerators are like the first.
+fn alike(numerators: &[u64]) -> usize {
+    let mut count = 0;
+    let mut i = 0;
+    while i < numerators.len() {
+        if numerators[i] == numerators[0] {
+            count += 1;
+        }
+        i += 1;
+    }
+    count
+}
+
+// Whether Share gives this numerator.
+fn agrees(table: &[u16], bus: usize, numerator: u64) -> bool {
+    match share(table, bus) {
+        OneShare::Refused(_) => false,
+        OneShare::Is(one, _) => one == numerator,
+    }
+}
+
+// How many numerators are what Share gives for their buses.
+fn agreeing(table: &[u16], numerators: &[u64]) -> usize {
+    let mut count = 0;
+    let mut bus = 0;
+    while bus < numerators.len() {
+        if agrees(table, bus, numerators[bus]) {
+            count += 1;
+        }
+        bus += 1;
+    }
+    count
+}
+
+// Cancel, and its answer.
 fn say_cancelled(numerator: u64, denominator: u64) {
     match cancel(numerator, denominator) {
         Cancelled::Refused(cause) => say_refused(cause),
-        Cancelled::Pair(p, q) => {
-            say_number(b"", p);
-            say_number(b"/", q);
+        Cancelled::Pair(top, bottom) => {
+            say_number(b"", top);
+            say_number(b"/", bottom);
         }
     }
 }
 
-// Reads a file into marked entries, and gives how many of them changed.
+// Read into marked entries, its answer, and up to where they changed, which is given too.
 fn say_read(file: &[u8], table: &mut [u16]) -> usize
     ensures { λ r. ⌜ r ≤ length (now (table .exit)) ⌝ }
 {
@@ -81,22 +122,25 @@ fn say_read(file: &[u8], table: &mut [u16]) -> usize
     end
 }
 
-// The same, and the entries that changed.
+// The same, and the entries up to there.
 fn say_table(file: &[u8], table: &mut [u16]) {
     let end = say_read(file, table);
-    say_entries(&table[0..end]);
+    if end > 0 {
+        say(b":");
+        say_entries(&table[0..end]);
+    }
 }
 
-// Shares of a table into marked entries.
+// Shares into marked numerators, its answer, and up to where they changed.
 fn say_shares(table: &[u16], numerators: &mut [u64]) {
     match shares(table, numerators) {
         AllShares::Refused(cause) => say_refused(cause),
-        AllShares::Over(denominator) => say_number(b"over ", denominator),
+        AllShares::Over(denominator) => say_number(b"L ", denominator),
     }
     say_changed(changed_numerators(numerators));
 }
 
-// The share of one bus.
+// Share, and its answer with the pair cancelled.
 fn say_share(table: &[u16], bus: usize) {
     match share(table, bus) {
         OneShare::Refused(cause) => say_refused(cause),
@@ -108,67 +152,34 @@ fn say_share(table: &[u16], bus: usize) {
     }
 }
 
-// Whether Share gives this numerator.
-fn agrees(table: &[u16], bus: usize, numerator: u64) -> bool {
-    match share(table, bus) {
-        OneShare::Refused(_) => false,
-        OneShare::Is(one, _) => one == numerator,
-    }
-}
-
-// How many entries are what Share gives for their buses.
-fn agreeing(table: &[u16], numerators: &[u64]) -> usize {
-    let mut count = 0;
-    let mut bus = 0;
-    while bus < numerators.len() {
-        if agrees(table, bus, numerators[bus]) {
-            count += 1;
-        }
-        bus += 1;
-    }
-    count
-}
-
-// How many entries are like the first.
-fn alike(numerators: &[u64]) -> usize {
-    let mut count = 0;
-    let mut i = 0;
-    while i < numerators.len() {
-        if numerators[i] == numerators[0] {
-            count += 1;
-        }
-        i += 1;
-    }
-    count
-}
-
 fn cancel_case() {
     say(b"Cancel 0/0: ");
     say_cancelled(0, 0);
     say(b"\n");
 }
 
+// A file into entries enough.
 fn file_case(label: &[u8], file: &[u8]) {
-    let mut table = [MARK; 2048];
+    let mut table = [MARK; ENTRIES];
     say(label);
     say_read(file, &mut table);
     say(b"\n");
 }
 
-// A star: bus 0 and lines to the buses after it.
+// Bus 0 with lines to the first buses after it, all needs 1.
 fn star_case(label: &[u8], buses: usize, lines: usize)
     requires { ⌜ 4 + buses + 4 * lines ≤ 1024 ⌝ }
 {
-    let mut file = [0u8; 1024];
+    let mut file = [0u8; BYTES];
     let bytes = write_star(&mut file, buses, lines);
     file_case(label, &file[0..bytes]);
 }
 
 fn star_of_24() {
-    let mut file = [0u8; 1024];
+    let mut file = [0u8; BYTES];
     let bytes = write_star(&mut file, 24, 23);
-    let mut table = [MARK; 128];
-    let mut numerators = [MARK64; 32];
+    let mut table = [MARK; ENTRIES];
+    let mut numerators = [NUMERATOR_MARK; NUMERATORS];
     say(b"24-bus star, Read: ");
     say_read(&file[0..bytes], &mut table);
     say(b"\n24-bus star, Shares: ");
@@ -187,22 +198,21 @@ fn star_of_24() {
     say(b"\n");
 }
 
-// Path into some entries, with an end of the second record and a byte count.
+// Path, with another end of its second record or a byte more, into some entries.
 fn path_case(label: &[u8], end: u8, bytes: usize, lent: usize)
-    requires { ⌜ (bytes ≤ 16) × (lent ≤ 16) ⌝ }
+    requires { ⌜ (bytes ≤ 16) × (lent ≤ 2048) ⌝ }
 {
     let file = path_to(end);
-    let mut table = [MARK; 16];
+    let mut table = [MARK; ENTRIES];
     say(label);
     say_table(&file[0..bytes], &mut table[0..lent]);
     say(b"\n");
 }
 
 fn empty_table_case() {
-    let table = [0u16; 0];
-    let mut numerators = [MARK64; 32];
+    let mut numerators = [NUMERATOR_MARK; NUMERATORS];
     say(b"an empty slice given to Shares: ");
-    say_shares(&table, &mut numerators);
+    say_shares(&[], &mut numerators);
     say(b"\n");
 }
 
@@ -213,11 +223,11 @@ fn main() {
     star_case(b"n = 512: ", 512, 0);
     file_case(b"n = 513 in a file of two bytes: ", &[1, 2]);
     file_case(b"m = 5889 with no records: ", &[1, 0, 1, 1, 23]);
-    file_case(b"empty file: ", b"");
-    path_case(b"Path with one byte more: ", 2, 16, 16);
-    path_case(b"second Path record made 1, 1: ", 1, 15, 16);
-    path_case(b"second Path record made 1, 3: ", 3, 15, 16);
-    path_case(b"second Path record made 1, 0: ", 0, 15, 16);
+    file_case(b"empty file: ", &[]);
+    path_case(b"Path with one byte more: ", 2, 16, ENTRIES);
+    path_case(b"second record made 1, 1: ", 1, 15, ENTRIES);
+    path_case(b"second record made 1, 3: ", 3, 15, ENTRIES);
+    path_case(b"second record made 1, 0: ", 0, 15, ENTRIES);
     path_case(b"Path into 11 entries: ", 2, 15, 11);
     path_case(b"Path into 12 entries: ", 2, 15, 12);
     empty_table_case();

@@ -14,12 +14,12 @@ pub fn say_refused(cause: Refusal) {
     say_number(b"refused ", cause.number() as u64);
 }
 
-// What a call left of marked entries, of which it changed none after the first few.
+// Up to where a call changed the entries lent.
 pub fn say_changed(end: usize) {
-    if end == 0 {
-        say(b", nothing changed");
-    } else {
-        say_number(b", entries changed ", end as u64);
+    say(b", nothing changed");
+    if end > 0 {
+        say_number(b" beyond ", end as u64);
+        say(b" entries");
     }
 }
 
