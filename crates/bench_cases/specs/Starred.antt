@@ -83,8 +83,9 @@ starred =
     ∷ (scored (path 2) is (4 ∷ 10 ∷ 4 ∷ []) over 6)
     -- Path, need 3 at bus 1: 3, 12, 3 over 6.
     ∷ (scored (path 3) is (3 ∷ 12 ∷ 3 ∷ []) over 6)
-    -- Triangle, needs 1, and triangle, needs 2: 6, 6, 6 over 6.
+    -- Triangle, needs 1: 6, 6, 6 over 6.
     ∷ (scored (triangle 1) is (6 ∷ 6 ∷ 6 ∷ []) over 6)
+    -- Triangle, needs 2: 6, 6, 6 over 6.
     ∷ (scored (triangle 2) is (6 ∷ 6 ∷ 6 ∷ []) over 6)
     -- Cancel 8/6: 4/3.
     ∷ (cancelled 8 6 is (4 ∷ []) over 3)
