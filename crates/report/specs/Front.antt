@@ -11,8 +11,7 @@ use Rattle.lists.specs.Tests.{split}
 use Rattle.tables.specs.Limits.{maxBytes, maxEntries}
 use Rattle.reading.specs.Read.{fileTable}
 use Rattle.reading.specs.Front.{long-refused, front-refused}
-use Rattle.sheet.specs.Sheet.{wholeSheet}
-use Rattle.report.specs.Report.{sheetOr, printed}
+use Rattle.report.specs.Report.{wholeSheet, sheetOr, printed}
 
 -- THE FRONT SUFFICES
 pub front-printed : (f : List ℕ) → printed (take (maxBytes + 1) f) ≡ printed f

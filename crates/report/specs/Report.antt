@@ -6,12 +6,13 @@ use lib.ListN.{length}
 use Rattle.refusals.specs.Outcomes.{Outcome, gives, refuses}
 use Rattle.text.specs.Text.{filled}
 use Rattle.lists.specs.Lists.{Tabled}
+use Rattle.lists.specs.Below.{joinBelow}
 use Rattle.tables.specs.Layout.{size}
 use Rattle.tables.specs.Holds.{Holds}
 use Rattle.formula.specs.Formula.{denominator, numerator}
 use Rattle.tables.specs.Limits.{maxBuses, maxEntries}
 use Rattle.reading.specs.Read.{readOutcome, fileTable}
-use Rattle.sheet.specs.Sheet.{wholeSheet}
+use Rattle.sheet.specs.Sheet.{sheetLine}
 
 -- bytes of the longest line that 64-bit numbers can make, and of the longest sheet of such lines
 abbrev pub longestLine : ℕ
@@ -26,6 +27,10 @@ pub record Scored (t : List ℕ) (L : ℕ) (numerators : List ℕ) : Type 0 wher
   pub over : L ≡ denominator t
   pub long : size t ≤ length numerators
   pub each : Tabled (size t) (numerator t) numerators
+
+-- sheet lines 0 to n
+abbrev pub wholeSheet : List ℕ → List ℕ
+wholeSheet t = joinBelow (size t + 1) (sheetLine t)
 
 -- `refused #`, ended by byte 10
 abbrev pub refusedForm : List ℕ

@@ -1,7 +1,6 @@
 -- The lines of a network's share sheet. Definitions only. Assumes nothing.
 use mathlib.Core.List.{List, [], _∷_}
-use Prim.Native.Nat.{ℕ, zero, suc, _+_}
-use Rattle.lists.specs.Below.{joinBelow}
+use Prim.Native.Nat.{ℕ, zero, suc}
 use Rattle.text.specs.Text.{filled}
 use Rattle.tables.specs.Layout.{size, need, degree, lines}
 use Rattle.fraction.specs.Cancel.{cancelled}
@@ -30,7 +29,3 @@ busNumbers t v =
 abbrev pub sheetLine : List ℕ → ℕ → List ℕ
 sheetLine t zero = filled headingForm (headingNumbers t)
 sheetLine t (suc v) = filled busForm (busNumbers t v)
-
--- sheet lines 0 to n
-abbrev pub wholeSheet : List ℕ → List ℕ
-wholeSheet t = joinBelow (size t + 1) (sheetLine t)

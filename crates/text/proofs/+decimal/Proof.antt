@@ -27,27 +27,27 @@ abbrev below : ℕ → In 1 kinds.ps
 below t = and 1 kinds.ps (falls 1 kinds.ps _<_ μ t) reads.Pre
 
 slice-write-out : (t : ℕ) → lts.Need-slice-write-out (below t, reads.Post) (given t) reads.Post
-slice-write-out t c = let a = c .before .before .args in omega (arith, c .before .before .pre .1, length-small (a .value) (c .if1 .taken))
+slice-write-out t c = let a = c .before .before .args in omega (arith, c .before .before .pre .1, length-small (a .value) (omega arith))
 
 returns : (t : ℕ) → lts.Need-returns (below t, reads.Post) (given t) reads.Post
 returns t c =
     let a = c .before .before .args in
-    let small = length-small (a .value) (c .if1 .taken) in (
+    let small = length-small (a .value) (omega arith) in (
       omega (arith, small),
       stored-entry (a .out .now) (a .at) [] (sym (put-none (a .out .now) (a .at))) (omega arith) _ (omega (arith, c .before .before .pre .1, small))
-          ∙ ap (put (a .out .now) (a .at)) (sym (decimal-small (a .value) (c .if1 .taken))),
+          ∙ ap (put (a .out .now) (a .at)) (sym (decimal-small (a .value) (omega arith))),
     )
 
 decimal-requires : (t : ℕ) → lts.Need-decimal-requires (below t, reads.Post) (given t) reads.Post
 decimal-requires t c κs =
     let s = c .before .before .before in
-    let long = length-large (s .args .value) (c .before .if1 .left) in
+    let long = length-large (s .args .value) (omega arith) in
     (omega (arith, s .pre .0), omega (arith, s .pre .1, long))
 
 -- the digits before the last are written: they are one fewer
 module _ {t : ℕ} (c : lts.After-decimal (below t, reads.Post) (given t) reads.Post) where
   large : length (decimal (c .before .before .before .before .args .value)) ≡ length (decimal (c .before .before .before .before .args .value / 10)) + 1
-  large = length-large (c .before .before .before .before .args .value) (c .before .before .if1 .left)
+  large = length-large (c .before .before .before .before .args .value) (omega arith)
 
 slice-write-out-2 : (t : ℕ) → lts.Need-slice-write-out-2 (below t, reads.Post) (given t) reads.Post
 slice-write-out-2 t c =
@@ -66,7 +66,7 @@ returns-2 t c =
       omega (arith, large d, d .decimal .ensures .0),
       stored-entry (a .out .now) (a .at) (decimal (a .value / 10)) (d .decimal .ensures .1) (d .decimal .ensures .0) _
           (omega (arith, s .pre .1, large d, d .decimal .ensures .0))
-          ∙ ap (put (a .out .now) (a .at)) (sym (decimal-large (a .value) (d .before .before .if1 .left))),
+          ∙ ap (put (a .out .now) (a .at)) (sym (decimal-large (a .value) (omega arith))),
     )
 
 pub +decimal-spec : {M : Type 1} → statement M

@@ -106,7 +106,7 @@ fill-spec =
     loop-holds
     (λ c. search needs)
     (λ c. search (needs, there c))
-    (λ c. there (c .before))
+    (λ c. search (needs, there (c .before)))
     decimal-requires
     (λ c. search (needs, there (c .before .before .before .before .before)))
     slice-write-out

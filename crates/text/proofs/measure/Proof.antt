@@ -89,7 +89,7 @@ measure-spec =
     loop-holds
     (λ c. search needs)
     (λ c. search (needs, there c))
-    (λ c. there (c .before))
+    (λ c. search (needs, there (c .before)))
     (λ c κs. search needs)
     add-bytes
     (λ c. search (needs, there (c .before .before)))

@@ -25,7 +25,7 @@ loop-less : tie.Need-loop-less Inv-loop μ-loop
 loop-less c = omega arith
 
 loop-again : tie.Need-loop-again Inv-loop μ-loop
-loop-again c = omega (arith, c .before .loop .inv, length-large (c .before .loop .rest) (c .loop-test .taken))
+loop-again c = omega (arith, c .before .loop .inv, length-large (c .before .loop .rest) (omega arith))
 
 returns : tie.Need-returns Inv-loop μ-loop
 returns c = omega (arith, c .before .loop .inv, length-small (c .before .loop .rest) (omega (arith, c .loop-test .left)))
