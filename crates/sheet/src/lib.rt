@@ -94,7 +94,7 @@ pub fn line(table: &[u16], i: usize, out: &mut [u8]) -> Written
     let units = units(over);
     let numerator = numerator(table, over, &units, bus);
     place(
-        b"# # # # #/#\n",
+        &Template::BUS,
         &bus_numbers(table, over, numerator, bus),
         out,
     )

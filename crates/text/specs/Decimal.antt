@@ -24,7 +24,7 @@ spelled-enough (suc f) zero n p q = rw (lt-ltb n 10 (omega arith)) refl
 spelled-enough (suc f) (suc g) n p q =
     split (ltb n 10)
     (λ e. rw e refl)
-    (λ e. let l : 10 ≤ n = ltb-false n 10 e in rw e (ap (λ l. l ++ (digit (n % 10) ∷ [])) (spelled-enough f g (n / 10) (omega arith) (omega arith))))
+    (λ e. let l : 10 ≤ n = ltb-false n 10 e in rw (e, spelled-enough f g (n / 10) (omega arith) (omega arith)))
 
 pub decimal-small : (n : ℕ) → n < 10 → decimal n ≡ digit n ∷ []
 unfolding decimal
