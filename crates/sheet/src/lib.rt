@@ -84,11 +84,7 @@ pub fn line(table: &[u16], i: usize, out: &mut [u8]) -> Written
     }
     let over = denominator(table);
     if i == 0 {
-        return place(
-            b"buses # lines # over #\n",
-            &heading_numbers(table, over),
-            out,
-        );
+        return place(&Template::HEADING, &heading_numbers(table, over), out);
     }
     let bus = i - 1;
     let units = units(over);
