@@ -1,7 +1,7 @@
 -- What is printed once Read has answered. Assumes nothing.
 use mathlib.Core.List.{List}
-use mathlib.Core.Path.{_≡_, sym, ap, ap₂, _∙_, fun-ext}
-use Prim.Native.Nat.{ℕ, _+_}
+use mathlib.Core.Path.{_≡_, sym, ap, _∙_, fun-ext}
+use Prim.Native.Nat.{ℕ}
 use lib.ListN.{length}
 use Rattle.refusals.specs.Outcomes.{gives, refuses}
 use Rattle.lists.specs.Below.{joinBelow}
@@ -14,7 +14,7 @@ use Rattle.sheet.specs.Same.{same-line}
 use Rattle.report.specs.Report.{wholeSheet, refusedLine, sheetOr, printed}
 
 same-sheet : {a b : List ℕ} → Alike a b → wholeSheet a ≡ wholeSheet b
-same-sheet w = ap₂ (λ n (f : ℕ → List ℕ). joinBelow (n + 1) f) (w .sizes) (fun-ext (same-line w))
+same-sheet w = rw (w .sizes) (ap (joinBelow _) (fun-ext (same-line w)))
 
 -- Read was lent x, which has room for any table
 module _ (f x : List ℕ) (room : length x ≡ maxEntries) where

@@ -6,18 +6,16 @@ use mathlib.Core.Path.{ap, _∙_}
 use Prim.Native.Nat.{_^_, _≤_, _<_}
 use lib.ListN.{length}
 use Rattle.lists.specs.Lists.{put}
+use Rattle.text.specs.Text.{filled}
 use Rattle.text.specs.Decimal.{words-none, words-more}
-use Rattle.report.specs.Report.{longestLine, refusedLine}
+use Rattle.report.specs.Report.{longestLine, refusedForm, refusedLine}
 use Rattle.report.specs.Lines.{refused-few}
 use Rattle.report.proofs.write_refusal.Statement.{statement}
 use Rattle.report.proofs.write_refusal.Tie as tie
 
 -- the line of a number is short
-few : (c : tie.After-number) → length (refusedLine (c .number .result)) ≤ longestLine
+few : (c : tie.After-number) → length (filled refusedForm (c .number .result ∷ [])) ≤ longestLine
 few c = let small : c .number .result < 2 ^ 64 = omega arith in refused-few (c .number .result ∷ []) (words-more small words-none)
-
-fill-requires : tie.Need-fill-requires
-fill-requires c κs = (omega arith, omega (arith, few (c .before .before), c .before .before .before .before .before .pre))
 
 returns : tie.Need-returns
 returns c =
@@ -27,6 +25,9 @@ returns c =
       (omega (arith, p .fill .ensures .0, ap (λ k. length (refusedLine k)) e), omega (arith, p .fill .ensures .0, few n)),
       p .fill .ensures .1 ∙ ap (λ k. put (n .before .before .before .args .out .now) 0 (refusedLine k)) e,
     )
+
+fill-requires : tie.Need-fill-requires
+fill-requires c κs = (omega arith, omega (arith, few (c .before .before), c .before .before .before .before .before .pre))
 
 pub write-refusal-spec : {M : Type 1} → statement M
 write-refusal-spec =
