@@ -12,10 +12,12 @@ use Rattle.lists.specs.Writes.{put-front, length-put}
 use Rattle.tables.specs.Layout.{size}
 use Rattle.tables.specs.Holds.{Holds}
 use Rattle.formula.specs.Formula.{denominator, numerator}
-use Rattle.text.specs.Text.{Words, filled}
+use Rattle.text.specs.Text.{filled}
+use Rattle.text.specs.Words.{Words}
 use Rattle.text.specs.Filled.{filled-few}
 use Rattle.sheet.specs.Sheet.{headingForm, busForm, sheetLine}
-use Rattle.report.specs.Report.{longestLine, Scored, refusedForm}
+use Rattle.report.specs.Report.{refusedForm}
+use Rattle.report.specs.Work.{longestLine, Scored}
 
 module _ (numbers : List ℕ) (w : Words numbers) where
   pub heading-few : length (filled headingForm numbers) ≤ longestLine

@@ -1,32 +1,13 @@
 -- What the sheet program prints for a file. Definitions only. Assumes nothing.
 use mathlib.Core.List.{List, [], _∷_}
-use mathlib.Core.Path.{_≡_}
-use Prim.Native.Nat.{ℕ, _+_, _*_, _≤_}
-use lib.ListN.{length}
+use Prim.Native.Nat.{ℕ, _+_}
+use Rattle.lists.specs.Below.{joinBelow}
 use Rattle.refusals.specs.Outcomes.{Outcome, gives, refuses}
 use Rattle.text.specs.Text.{filled}
-use Rattle.lists.specs.Lists.{Tabled}
-use Rattle.lists.specs.Below.{joinBelow}
+use Rattle.tables.specs.Limits.{maxEntries}
 use Rattle.tables.specs.Layout.{size}
-use Rattle.tables.specs.Holds.{Holds}
-use Rattle.formula.specs.Formula.{denominator, numerator}
-use Rattle.tables.specs.Limits.{maxBuses, maxEntries}
 use Rattle.reading.specs.Read.{readOutcome, fileTable}
 use Rattle.sheet.specs.Sheet.{sheetLine}
-
--- bytes of the longest line that 64-bit numbers can make, and of the longest sheet of such lines
-abbrev pub longestLine : ℕ
-longestLine = 126
-
-abbrev pub longestSheet : ℕ
-longestSheet = longestLine * (1 + maxBuses)
-
--- the slice t holds a network that is scored: its L, and the numerators of its buses
-pub record Scored (t : List ℕ) (L : ℕ) (numerators : List ℕ) : Type 0 where
-  pub holding : Holds t
-  pub over : L ≡ denominator t
-  pub long : size t ≤ length numerators
-  pub each : Tabled (size t) (numerator t) numerators
 
 -- sheet lines 0 to n
 abbrev pub wholeSheet : List ℕ → List ℕ

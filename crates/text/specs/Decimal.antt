@@ -11,7 +11,7 @@ use lib.ListN.{length, length-append}
 use Rattle.lists.specs.Lists.{at}
 use Rattle.lists.specs.Places.{at-append}
 use Rattle.lists.specs.Tests.{split}
-use Rattle.text.specs.Text.{digit, spelled, decimal, Words}
+use Rattle.text.specs.Text.{digit, spelled, decimal}
 
 spelled-one : (f n : ℕ) → spelled f true n ≡ digit n ∷ []
 spelled-one zero n = refl
@@ -95,17 +95,3 @@ no-leading-zero =
     by-tenths (λ n. 0 < n → 48 < at (decimal n) 0)
     (λ n l p. rw (decimal-small n l) (omega arith))
     (λ n l q p. rw (decimal-large n l, at-append (decimal (n / 10)) (digit (n % 10) ∷ []) 0 (decimal-some (n / 10))) (q (omega arith)))
-
--- ---- lists of 64-bit numbers
-
-pub words-none : Words []
-unfolding at
-words-none = record { each = λ k. omega arith }
-
-pub words-more : {x : ℕ} {l : List ℕ} → x < 2 ^ 64 → Words l → Words (x ∷ l)
-unfolding at
-words-more {x} {l} h w = record { each = go }
-  where
-    go : (k : ℕ) → at (x ∷ l) k < 2 ^ 64
-    go zero = h
-    go (suc k) = w .each k

@@ -13,7 +13,8 @@ use Rattle.lists.specs.Lists.{at, count}
 use Rattle.lists.specs.Tests.{split}
 use Rattle.lists.specs.Counts.{count-append}
 use Rattle.lists.specs.Places.{at-drop, take-next}
-use Rattle.text.specs.Text.{decimal, Words, sign, filled}
+use Rattle.text.specs.Text.{decimal, sign, filled}
+use Rattle.text.specs.Words.{Words}
 use Rattle.text.specs.Decimal.{decimal-few}
 
 -- a template in two parts: the second takes the numbers that the first leaves

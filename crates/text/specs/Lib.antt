@@ -1,4 +1,6 @@
+-- Text: definitions, computed examples, then laws.
 pub mod Text
 pub mod Examples
+pub mod Words
 pub mod Decimal
 pub mod Filled

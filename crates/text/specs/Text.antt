@@ -2,7 +2,7 @@
 -- Definitions only. Assumes nothing.
 use mathlib.Core.Bool.{Bool, true, false, cond}
 use mathlib.Core.List.{List, [], _∷_, _++_}
-use Prim.Native.Nat.{ℕ, zero, suc, _+_, _/_, _%_, _^_, _<_}
+use Prim.Native.Nat.{ℕ, zero, suc, _+_, _/_, _%_}
 use lib.Dec.{ltb, eqb}
 use lib.ListN.{drop}
 use Rattle.lists.specs.Lists.{tally, at}
@@ -12,19 +12,15 @@ use Rattle.lists.specs.Lists.{tally, at}
 abbrev pub digit : ℕ → ℕ
 digit d = 48 + d
 
--- n in decimal, in one digit where that is all, else its last digit behind those of a tenth of it; `more` digits before the last are enough
+-- n in decimal: one digit if that is enough, and else those of a tenth of n and then its last digit; `more` bounds how many stand before the last
 abbrev pub spelled : ℕ → Bool → ℕ → List ℕ
-spelled zero all n = digit n ∷ []
+spelled zero enough n = digit n ∷ []
 spelled (suc more) true n = digit n ∷ []
 spelled (suc more) false n = spelled more (ltb (n / 10) 10) (n / 10) ++ (digit (n % 10) ∷ [])
 
--- n in decimal without leading zeros
+-- n in decimal without leading zeros; n is always bound enough
 unfoldable pub decimal : ℕ → List ℕ
 decimal n = spelled n (ltb n 10) n
-
--- a list of 64-bit numbers
-pub record Words (l : List ℕ) : Type 0 where
-  pub each : (k : ℕ) → at l k < 2 ^ 64
 
 -- ---- templates
 

@@ -11,7 +11,7 @@ use Rattle.lists.specs.Writes.{put-none, stored-length, stored-list}
 use Rattle.tables.specs.Limits.{maxBuses}
 use Rattle.tables.specs.Layout.{size}
 use Rattle.sheet.specs.Sheet.{sheetLine}
-use Rattle.report.specs.Report.{longestLine}
+use Rattle.report.specs.Work.{longestLine}
 use Rattle.report.proofs.write_lines.Statement.{statement}
 use Rattle.report.proofs.write_lines.Tie as tie
 

@@ -7,8 +7,9 @@ use Prim.Native.Nat.{_^_, _≤_, _<_}
 use lib.ListN.{length}
 use Rattle.lists.specs.Lists.{put}
 use Rattle.text.specs.Text.{filled}
-use Rattle.text.specs.Decimal.{words-none, words-more}
-use Rattle.report.specs.Report.{longestLine, refusedForm, refusedLine}
+use Rattle.text.specs.Words.{words-none, words-more}
+use Rattle.report.specs.Report.{refusedForm, refusedLine}
+use Rattle.report.specs.Work.{longestLine}
 use Rattle.report.specs.Lines.{refused-few}
 use Rattle.report.proofs.write_refusal.Statement.{statement}
 use Rattle.report.proofs.write_refusal.Tie as tie

@@ -4,7 +4,7 @@ use native.Mathlib.Omega.{arith}
 use mathlib.Core.Path.{ap, _∙_}
 use lib.ListN.{length}
 use Rattle.lists.specs.Lists.{at}
-use Rattle.text.specs.Decimal.{words-none, words-more}
+use Rattle.text.specs.Words.{words-none, words-more}
 use Rattle.tables.specs.Rows.{length-needs}
 use Rattle.formula.specs.Denominator.{denominator-some}
 use Rattle.sheet.specs.Calls.{numbers-read}

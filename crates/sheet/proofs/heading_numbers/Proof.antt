@@ -1,7 +1,7 @@
 -- `sheet::heading_numbers` meets its contract. Assumes nothing.
 use borrow.Author.Needs.{needs}
 use native.Mathlib.Omega.{arith}
-use Rattle.text.specs.Decimal.{words-none, words-more}
+use Rattle.text.specs.Words.{words-none, words-more}
 use Rattle.sheet.proofs.heading_numbers.Statement.{statement}
 use Rattle.sheet.proofs.heading_numbers.Tie as tie
 
