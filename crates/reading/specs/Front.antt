@@ -1,7 +1,7 @@
 -- One byte more than the largest file has suffices to judge a file: a longer one is refused, whatever stands behind. Assumes nothing.
-use mathlib.Core.Bool.{true, false, not, cond}
-use mathlib.Core.List.{List, _++_}
-use mathlib.Core.Path.{_≡_, sym, ap, ap₂, _∙_}
+use mathlib.Core.Bool.{cond}
+use mathlib.Core.List.{List}
+use mathlib.Core.Path.{_≡_, sym, ap, _∙_}
 use Prim.Native.Nat.{ℕ, _+_, _≤_, _<_}
 use native.Mathlib.Omega.{arith}
 use borrow.Author.Tests.{leb-true, leb-false, lt-ltb, le-ltb}
@@ -11,12 +11,12 @@ use lib.Seq.{take-all, length-take-le}
 use Rattle.lists.specs.Lists.{at, part}
 use Rattle.lists.specs.Tests.{split}
 use Rattle.lists.specs.Places.{at-take, part-append}
-use Rattle.refusals.specs.Outcomes.{refuses, outcome}
+use Rattle.refusals.specs.Outcomes.{refuses}
 use Rattle.tables.specs.Limits.{maxBuses, maxLines, maxBytes}
 use Rattle.tables.specs.Holds.{within, fairNeeds}
 use Rattle.tables.specs.Facts.{within-facts}
 use Rattle.format.specs.Bytes.{wordAt, busCount, needsEnd, needBytes, lineCount, recordsAt, fileEnd}
-use Rattle.format.specs.Sections.{endsBefore, goesOn, sectionCauses}
+use Rattle.format.specs.Sections.{endsBefore, goesOn}
 use Rattle.reading.specs.Read.{readOutcome}
 
 -- why a file that is longer than the largest is refused: by its front

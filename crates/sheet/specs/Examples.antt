@@ -1,10 +1,9 @@
 -- The sheet of Path in 01, computed byte by byte, and how calls come out. Assumes nothing.
-use mathlib.Core.List.{List, [], _∷_, map}
+use mathlib.Core.List.{[], _∷_, map}
 use mathlib.Core.Path.{_≡_, refl}
-use Prim.Native.Nat.{ℕ}
 use Rattle.lists.specs.Lists.{at}
 use Rattle.lists.specs.Below.{allBelow, largestBelow, sumBelow, joinBelow, mapBelow}
-use Rattle.refusals.specs.Outcomes.{Outcome, gives, refuses}
+use Rattle.refusals.specs.Outcomes.{gives, refuses}
 use Rattle.text.specs.Text.{decimal, filled}
 use Rattle.fraction.specs.Divisors.{gcdOf, lcmOf, lcmAll}
 use Rattle.game.specs.Game.{ownTerm, neighbourTerm}

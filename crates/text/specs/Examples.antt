@@ -1,8 +1,6 @@
 -- Numbers and a template, computed. Assumes nothing.
-use mathlib.Core.List.{List, [], _∷_, map}
+use mathlib.Core.List.{[], _∷_, map}
 use mathlib.Core.Path.{_≡_, refl}
-use Prim.Native.Nat.{ℕ}
-use lib.ListN.{getD}
 use Rattle.lists.specs.Lists.{at}
 use Rattle.text.specs.Text.{decimal, filled}
 

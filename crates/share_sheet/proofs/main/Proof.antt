@@ -1,6 +1,5 @@
 -- `share_sheet::main` meets its contract: what is printed lies within the buffer. Assumes nothing.
 use borrow.Author.Needs.{needs}
-use native.Mathlib.Omega.{arith}
 use mathlib.Core.Path.{sym}
 use lib.Seq.{length-take-le}
 use Rattle.share_sheet.proofs.main.Statement.{statement}

@@ -1,6 +1,5 @@
 -- `sheet::place` meets its contract. Assumes nothing.
 use borrow.Author.Needs.{needs}
-use native.Mathlib.Omega.{arith}
 use Rattle.text.specs.Text.{filled}
 use Rattle.sheet.specs.Calls.{too-short, in-front}
 use Rattle.sheet.proofs.place.Statement.{statement}

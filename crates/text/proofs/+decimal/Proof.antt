@@ -1,12 +1,12 @@
 -- `text::decimal`, which calls itself, meets its contract. The measure is the number. Assumes nothing.
 use borrow.Author.Needs.{needs}
 use native.Mathlib.Omega.{arith}
-use mathlib.Core.List.{[], _∷_}
-use mathlib.Core.Path.{_≡_, refl, sym, ap, _∙_}
+use mathlib.Core.List.{[]}
+use mathlib.Core.Path.{_≡_, sym, ap, _∙_}
 use Prim.Native.Nat.{ℕ, _+_, _/_, _<_}
-use lib.ListN.{length, length-set}
+use lib.ListN.{length}
 use Rattle.lists.specs.Lists.{put}
-use Rattle.lists.specs.Writes.{put-none, stored-length, stored-entry}
+use Rattle.lists.specs.Writes.{put-none, stored-entry}
 use Rattle.text.specs.Text.{decimal}
 use Rattle.text.specs.Decimal.{decimal-small, decimal-large, length-small, length-large}
 use borrow.Fn.Kinds.{In}

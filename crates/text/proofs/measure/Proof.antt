@@ -3,11 +3,11 @@ use borrow.Author.Needs.{needs}
 use native.Mathlib.Omega.{arith}
 use mathlib.Core.Logic.{⊎-elim}
 use mathlib.Core.List.{[], _∷_}
-use mathlib.Core.Path.{_≡_, refl, sym, ap, _∙_}
+use mathlib.Core.Path.{_≡_, refl, ap, _∙_}
 use Prim.Native.Nat.{_+_, _-_, _*_, _≤_, _<_}
 use lib.ListN.{length, take}
 use lib.Seq.{take-all}
-use Rattle.lists.specs.Lists.{at, count, put}
+use Rattle.lists.specs.Lists.{at, count}
 use Rattle.lists.specs.Counts.{count-few}
 use Rattle.text.specs.Text.{decimal, sign, filled}
 use Rattle.text.specs.Filled.{filled-few, Turn, sign-turn, sign-there, byte-turn}

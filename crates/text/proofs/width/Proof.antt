@@ -1,5 +1,4 @@
 -- `text::width` meets its contract. The loop's invariant: digits counted and those of the rest are one more than the number's. Assumes nothing.
-use borrow.Author.Needs.{needs}
 use native.Mathlib.Omega.{arith}
 use mathlib.Core.Path.{_≡_, refl}
 use Prim.Native.Nat.{_+_}
