@@ -11,7 +11,7 @@ use lib.ListN.{length, length-append}
 use Rattle.lists.specs.Lists.{at}
 use Rattle.lists.specs.Places.{at-append}
 use Rattle.lists.specs.Tests.{split}
-use Rattle.text.specs.Text.{digit, spelled, decimal}
+use Rattle.text.specs.Text.{digit, spelled, decimal, saidBehind}
 
 spelled-one : (f n : ℕ) → spelled f true n ≡ digit n ∷ []
 spelled-one zero n = refl
@@ -59,11 +59,6 @@ decimal-few (suc k) n l =
     (λ e. let g : 10 ≤ n = ltb-false n 10 e in omega (arith, length-large n g, decimal-few k (n / 10) (omega (arith, pow-suc 10 (suc k)))))
 
 -- ---- what the digits say
-
--- the number that digits say behind those of a
-abbrev pub saidBehind : ℕ → List ℕ → ℕ
-saidBehind a [] = a
-saidBehind a (b ∷ l) = saidBehind (a * 10 + (b - 48)) l
 
 said-append : (a : ℕ) (l : List ℕ) (b : ℕ) → saidBehind a (l ++ (b ∷ [])) ≡ saidBehind a l * 10 + (b - 48)
 said-append a [] b = refl

@@ -2,7 +2,7 @@
 -- Definitions only. Assumes nothing.
 use mathlib.Core.Bool.{Bool, true, false, cond}
 use mathlib.Core.List.{List, [], _∷_, _++_}
-use Prim.Native.Nat.{ℕ, zero, suc, _+_, _/_, _%_}
+use Prim.Native.Nat.{ℕ, zero, suc, _+_, _-_, _*_, _/_, _%_}
 use lib.Dec.{ltb, eqb}
 use lib.ListN.{drop}
 use Rattle.lists.specs.Lists.{tally, at}
@@ -21,6 +21,11 @@ spelled (suc more) false n = spelled more (ltb (n / 10) 10) (n / 10) ++ (digit (
 -- n in decimal without leading zeros; n is always bound enough
 unfoldable pub decimal : ℕ → List ℕ
 decimal n = spelled n (ltb n 10) n
+
+-- the number that digits say behind those of a
+abbrev pub saidBehind : ℕ → List ℕ → ℕ
+saidBehind a [] = a
+saidBehind a (b ∷ l) = saidBehind (a * 10 + (b - 48)) l
 
 -- ---- templates
 
