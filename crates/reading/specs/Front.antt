@@ -85,9 +85,14 @@ module _ (f : List ℕ) (l : maxBytes < length f) where
   pub front-refused : (lent : ℕ) → readOutcome front lent ≡ refuses (longNumber f)
   front-refused lent = long-refused front lent (omega (arith, long-front)) ∙ ap refuses same-number
 
+-- what is the same for the front of each longer file is so for the front of any
+pub by-front : {A : Type 0} (g : List ℕ → A) → ((f : List ℕ) → maxBytes < length f → g (take (maxBytes + 1) f) ≡ g f)
+    → (f : List ℕ) → g (take (maxBytes + 1) f) ≡ g f
+by-front g long f =
+    split (leb (length f) (maxBytes + 1))
+    (λ e. ap g (take-all (maxBytes + 1) f (leb-true (length f) (maxBytes + 1) e)))
+    (λ e. long f (omega (arith, leb-false (length f) (maxBytes + 1) e)))
+
 -- THE FRONT SUFFICES
 pub front-read : (f : List ℕ) (lent : ℕ) → readOutcome (take (maxBytes + 1) f) lent ≡ readOutcome f lent
-front-read f lent =
-    split (leb (length f) (maxBytes + 1))
-    (λ e. ap (λ f. readOutcome f lent) (take-all (maxBytes + 1) f (leb-true (length f) (maxBytes + 1) e)))
-    (λ e. let l : maxBytes < length f = omega (arith, leb-false (length f) (maxBytes + 1) e) in front-refused f l lent ∙ sym (long-refused f lent l))
+front-read f lent = by-front (λ f. readOutcome f lent) (λ f l. front-refused f l lent ∙ sym (long-refused f lent l)) f

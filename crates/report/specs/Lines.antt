@@ -1,10 +1,10 @@
 -- How long lines may be, and lines and numerators as code writes and stores them. Assumes nothing.
 use mathlib.Core.List.{List}
 use mathlib.Core.Path.{_≡_, ap, _∙_}
-use Prim.Native.Nat.{ℕ, _+_, _≤_}
+use Prim.Native.Nat.{ℕ, _+_, _*_, _≤_}
 use native.Mathlib.Omega.{arith}
 use lib.ListN.{length}
-use Rattle.lists.specs.Lists.{at, put}
+use Rattle.lists.specs.Lists.{count, at, put}
 use Rattle.lists.specs.Below.{mapBelow}
 use Rattle.lists.specs.Places.{at-append}
 use Rattle.lists.specs.Range.{length-mapBelow, mapBelow-at}
@@ -12,22 +12,15 @@ use Rattle.lists.specs.Writes.{put-front, length-put}
 use Rattle.tables.specs.Layout.{size}
 use Rattle.tables.specs.Holds.{Holds}
 use Rattle.formula.specs.Formula.{denominator, numerator}
-use Rattle.text.specs.Text.{filled}
+use Rattle.text.specs.Text.{sign, filled}
 use Rattle.text.specs.Words.{Words}
 use Rattle.text.specs.Filled.{filled-few}
-use Rattle.sheet.specs.Sheet.{headingForm, busForm, sheetLine}
-use Rattle.report.specs.Report.{refusedForm}
+use Rattle.sheet.specs.Sheet.{sheetLine}
 use Rattle.report.specs.Work.{longestLine, Scored}
 
-module _ (numbers : List ℕ) (w : Words numbers) where
-  pub heading-few : length (filled headingForm numbers) ≤ longestLine
-  heading-few = omega (arith, filled-few headingForm numbers w)
-
-  pub bus-few : length (filled busForm numbers) ≤ longestLine
-  bus-few = omega (arith, filled-few busForm numbers w)
-
-  pub refused-few : length (filled refusedForm numbers) ≤ longestLine
-  refused-few = omega (arith, filled-few refusedForm numbers w)
+-- a line with 64-bit numbers: each `#` of its template becomes at most 20 digits
+pub line-few : (form numbers : List ℕ) → length form + 19 * count sign form ≤ longestLine → Words numbers → length (filled form numbers) ≤ longestLine
+line-few form numbers h w = omega (arith, filled-few form numbers w)
 
 -- a text that is line i of t's sheet was written into x from place a on, and r is the place behind it
 pub line-written : (t x : List ℕ) (i a : ℕ) {text y : List ℕ} {r : ℕ} → text ≡ sheetLine t i → length text ≤ longestLine → r ≡ a + length text → y ≡ put x a text

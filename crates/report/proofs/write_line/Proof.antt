@@ -6,15 +6,16 @@ use Prim.Native.Nat.{suc, _-_, _<_}
 use lib.ListN.{length}
 use Rattle.lists.specs.Lists.{at}
 use Rattle.tables.specs.Layout.{size}
+use Rattle.sheet.specs.Sheet.{headingForm, busForm}
 use Rattle.sheet.specs.Calls.{heading-read, bus-read}
-use Rattle.report.specs.Lines.{heading-few, bus-few, line-written}
+use Rattle.report.specs.Lines.{line-few, line-written}
 use Rattle.report.proofs.write_line.Statement.{statement}
 use Rattle.report.proofs.write_line.Tie as tie
 
 fill-requires : tie.Need-fill-requires
 fill-requires c κs =
     let e = c .before .before .heading-numbers .ensures in
-    let few = heading-few _ (e .1) in
+    let few = line-few headingForm _ (omega arith) (e .1) in
     (omega (arith, ap length (e .0)), omega (arith, few, c .before .before .before .before .before .before .before .before .pre .2))
 
 returns : tie.Need-returns
@@ -23,7 +24,7 @@ returns c =
     let h = p .before .before .before in
     let e = h .heading-numbers .ensures in
     let a = h .before .before .before .before .before .before .args in
-    line-written (a .table .now) (a .out .now) (a .i) (a .at) (heading-read _ (h .before .before .if1 .taken) (e .0)) (heading-few _ (e .1)) (p .fill .ensures .0) (p .fill .ensures .1)
+    line-written (a .table .now) (a .out .now) (a .i) (a .at) (heading-read _ (h .before .before .if1 .taken) (e .0)) (line-few headingForm _ (omega arith) (e .1)) (p .fill .ensures .0) (p .fill .ensures .1)
 
 bus-numbers-requires : tie.Need-bus-numbers-requires
 unfolding at
@@ -36,7 +37,7 @@ bus-numbers-requires c κs =
 fill-requires-2 : tie.Need-fill-requires-2
 fill-requires-2 c κs =
     let e = c .before .before .bus-numbers .ensures in
-    let few = bus-few _ (e .1) in
+    let few = line-few busForm _ (omega arith) (e .1) in
     (omega (arith, ap length (e .0)), omega (arith, few, c .before .before .before .before .before .before .before .before .before .pre .2))
 
 returns-2 : tie.Need-returns-2
@@ -46,7 +47,7 @@ returns-2 c =
     let e = b .bus-numbers .ensures in
     let a = b .before .before .before .before .before .before .before .args in
     let z : a .i ≡ suc (a .i - 1) = omega (arith, b .before .before .before .if1 .left) in
-    line-written (a .table .now) (a .out .now) (a .i) (a .at) (bus-read _ z (e .0)) (bus-few _ (e .1)) (p .fill2 .ensures .0) (p .fill2 .ensures .1)
+    line-written (a .table .now) (a .out .now) (a .i) (a .at) (bus-read _ z (e .0)) (line-few busForm _ (omega arith) (e .1)) (p .fill2 .ensures .0) (p .fill2 .ensures .1)
 
 pub write-line-spec : {M : Type 1} → statement M
 write-line-spec =

@@ -10,13 +10,13 @@ use Rattle.text.specs.Text.{filled}
 use Rattle.text.specs.Words.{words-none, words-more}
 use Rattle.report.specs.Report.{refusedForm, refusedLine}
 use Rattle.report.specs.Work.{longestLine}
-use Rattle.report.specs.Lines.{refused-few}
+use Rattle.report.specs.Lines.{line-few}
 use Rattle.report.proofs.write_refusal.Statement.{statement}
 use Rattle.report.proofs.write_refusal.Tie as tie
 
 -- the line of a number is short
 few : (c : tie.After-number) → length (filled refusedForm (c .number .result ∷ [])) ≤ longestLine
-few c = let small : c .number .result < 2 ^ 64 = omega arith in refused-few (c .number .result ∷ []) (words-more small words-none)
+few c = let small : c .number .result < 2 ^ 64 = omega arith in line-few refusedForm (c .number .result ∷ []) (omega arith) (words-more small words-none)
 
 returns : tie.Need-returns
 returns c =

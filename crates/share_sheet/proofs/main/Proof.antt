@@ -5,12 +5,6 @@ use lib.Seq.{length-take-le}
 use Rattle.share_sheet.proofs.main.Statement.{statement}
 use Rattle.share_sheet.proofs.main.Tie as tie
 
-array-share-prefix-text : tie.Need-array-share-prefix-text
-array-share-prefix-text c = c .report .ensures .0 .1
-
-slice-aggregate-write-all : tie.Need-slice-aggregate-write-all
-slice-aggregate-write-all c = sym (length-take-le _ _ (c .before .report .ensures .0 .1))
-
 pub main-spec : {M : Type 1} → statement M
 main-spec =
     tie.close
@@ -24,7 +18,7 @@ main-spec =
     (λ c. search needs)
     (λ c. search needs)
     (λ c κs. search needs)
-    array-share-prefix-text
-    slice-aggregate-write-all
+    (λ c. c .report .ensures .0 .1)
+    (λ c. sym (length-take-le _ _ (c .before .report .ensures .0 .1)))
     (λ c κs. search needs)
     (λ c. search needs))
