@@ -1,0 +1,36 @@
+-- `share_sheet_c::share_sheet_shares` meets its contract. Assumes nothing.
+use borrow.Author.Needs.{needs}
+use mathlib.Core.Path.{sym, ap, subst, _∙_}
+use mathlib.Core.List.{List}
+use Prim.Native.Nat.{ℕ}
+use Rattle.refusals.specs.Outcomes.{Outcome}
+use Rattle.shares.specs.Answers.{AllFair}
+use Rattle.scorer.specs.Answers.{sharesSays}
+use Rattle.share_sheet_c.specs.Telling.{refused, kept, accepted, handed, still}
+use Rattle.share_sheet_c.proofs.share_sheet_shares.Statement.{statement}
+use Rattle.share_sheet_c.proofs.share_sheet_shares.Tie as tie
+
+-- what is promised of shares, of an answer
+abbrev FairAs : List ℕ → ℕ → List ℕ → Outcome ℕ → Type 0
+FairAs t lent numerators answer = AllFair t lent answer numerators
+
+returns : tie.Need-returns
+returns c =
+    let m = c .before .before in
+    let a = m .before .before .before .before in
+    let says = ap sharesSays (m .cause .given .1) in
+    let e = sym says ∙ a .shares .ensures .0 in
+    (refused e (c .number .ensures), (kept e _, (a .shares .ensures .1 .0, still (FairAs _ _ _) (m .cause .given .0 .0) _ (c .number .ensures) (subst (FairAs _ _ _) says (a .shares .ensures .1 .1)))))
+
+returns-2 : tie.Need-returns-2
+returns-2 c =
+    let m = c .before in
+    let a = m .before .before .before .before in
+    let says = ap sharesSays (m .denominator .given .1) in
+    let e = sym says ∙ a .shares .ensures .0 in
+    (accepted e, (handed e _, (a .shares .ensures .1 .0, subst (FairAs _ _ _) says (a .shares .ensures .1 .1))))
+
+pub share-sheet-shares-spec : {M : Type 1} → statement M
+share-sheet-shares-spec =
+    tie.close
+    (tie.spec (λ c κs. search needs) (λ c. search needs) (λ c κs. search needs) (λ c. search needs) (λ c. search needs) returns (λ c. search needs) returns-2)

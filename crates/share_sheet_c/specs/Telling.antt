@@ -1,0 +1,64 @@
+-- How an answer is told, and that 0 says accepted. Assumes nothing.
+use mathlib.Core.Bool.{Bool, true, false, cond}
+use mathlib.Core.List.{List, [], _∷_}
+use mathlib.Core.Path.{_≡_, refl, sym, ap, _∙_}
+use Prim.Native.Nat.{ℕ, zero, suc, _<_}
+use native.Mathlib.Omega.{arith}
+use Rattle.refusals.specs.declared.Refusal.{Refusal}
+use Rattle.refusals.specs.declared.Refusal.the-variants.{FileTooShort, BusCount, Need, LineCount, FileTooLong, LineEnds, CrowdedBus, RepeatedLine, NoDenominator, TableTooShort, NoNetwork, NumeratorsTooShort, NoSuchBus, TextTooShort}
+use Rattle.refusals.specs.Numbers.{numberOf}
+use Rattle.refusals.specs.Outcomes.{Outcome, gives, refuses, Cause, outcome, valuesOr}
+use Rattle.share_sheet_c.specs.Told.{numberFor, told}
+
+-- no refusal has number 0
+pub above-zero : (r : Refusal) → 0 < numberOf r
+above-zero FileTooShort = omega arith
+above-zero BusCount = omega arith
+above-zero Need = omega arith
+above-zero LineCount = omega arith
+above-zero FileTooLong = omega arith
+above-zero LineEnds = omega arith
+above-zero CrowdedBus = omega arith
+above-zero RepeatedLine = omega arith
+above-zero NoDenominator = omega arith
+above-zero TableTooShort = omega arith
+above-zero NoNetwork = omega arith
+above-zero NumeratorsTooShort = omega arith
+above-zero NoSuchBus = omega arith
+above-zero TextTooShort = omega arith
+
+module _ {A : Type 0} where
+  -- so a number above 0 says refused, whatever stands in the lent places
+  pub told-refused : (k : ℕ) (values : A) → 0 < k → told k values ≡ refuses k
+  told-refused zero values h = absurd (omega arith)
+  told-refused (suc k) values h = refl
+
+  -- THE NUMBER SAYS WHICH: a call's number, with its values in the lent places, says what the call gives
+  pub number-says : (causes : List Cause) (values : A) → told (numberFor (outcome causes values)) values ≡ outcome causes values
+  number-says [] values = refl
+  number-says (c ∷ cs) values = go (c .test) (number-says cs values)
+    where
+      go : (t : Bool) → told (numberFor (outcome cs values)) values ≡ outcome cs values
+          → told (numberFor (cond t (refuses (numberOf (c .refusal))) (outcome cs values))) values ≡ cond t (refuses (numberOf (c .refusal))) (outcome cs values)
+      go true h = told-refused (numberOf (c .refusal)) values (above-zero (c .refusal))
+      go false h = h
+
+  -- o is due, and the call refuses with the number k
+  module _ {o : Outcome A} {k : ℕ} (e : refuses k ≡ o) where
+    pub refused : {r : ℕ} → r ≡ k → r ≡ numberFor o
+    refused n = n ∙ ap numberFor e
+
+    pub kept : (held : A) → held ≡ valuesOr held o
+    kept held = ap (valuesOr held) e
+
+  -- o is due, and the call gives these values
+  module _ {o : Outcome A} {values : A} (e : gives values ≡ o) where
+    pub accepted : 0 ≡ numberFor o
+    accepted = ap numberFor e
+
+    pub handed : (held : A) → values ≡ valuesOr held o
+    handed held = ap (valuesOr held) e
+
+  -- what holds of a refusal holds of what is told, whatever stands in the lent places
+  pub still : (P : Outcome A → Type 0) (cause : Refusal) (values : A) {r : ℕ} → r ≡ numberOf cause → P (refuses (numberOf cause)) → P (told r values)
+  still P cause values n p = rw (n, told-refused (numberOf cause) values (above-zero cause)) p

@@ -1,0 +1,136 @@
+// The library for C, and for languages that call C: each call of 01, on numbers, slices and lent places.
+// A call gives 0, or 01's number where it is refused. Values are handed back through lent places, which a refused call leaves as they were.
+ghost use mathlib.Core.Path.{_≡_};
+ghost use lib.ListN.{length};
+ghost use Rattle.refusals.specs.Outcomes.{valuesOr};
+ghost use Rattle.tables.specs.Answers.{degreeOutcome};
+ghost use Rattle.reading.specs.Read.{readOutcome, tableAfter};
+ghost use Rattle.shares.specs.Answers.{sharesOutcome, numeratorsAfter, AllFair, shareOutcome, OneFair};
+ghost use Rattle.fraction.specs.Cancel.{cancelOutcome, CancelRule};
+ghost use Rattle.sheet.specs.Answers.{lineOutcome, lineAfter};
+ghost use Rattle.share_sheet_c.specs.Told.{numberFor, told, counted};
+use fraction::Cancelled;
+use lookup::BusDegree;
+use reader::Reading;
+use scorer::AllShares;
+use scorer::OneShare;
+use sheet::Written;
+
+// Reads a file into a lent table, and gives n and m.
+#[no_mangle]
+pub extern "C" fn share_sheet_read(
+    file: &[u8],
+    table: &mut [u16],
+    buses: &mut usize,
+    lines: &mut usize,
+) -> u8
+    ensures answer { λ r. ⌜ r ≡ numberFor (readOutcome (now (file .entry)) (length (now (table .entry)))) ⌝ }
+    ensures values { λ _. ⌜ counted (now (buses .exit)) (now (lines .exit)) ≡ valuesOr (counted (now (buses .entry)) (now (lines .entry))) (readOutcome (now (file .entry)) (length (now (table .entry)))) ⌝ }
+    ensures stored { λ _. ⌜ now (table .exit) ≡ tableAfter (now (file .entry)) (now (table .entry)) ⌝ }
+{
+    match reader::read(file, table) {
+        Reading::Refused(cause) => cause.number(),
+        Reading::Accepted(counts) => {
+            *buses = counts.buses;
+            *lines = counts.lines;
+            0
+        }
+    }
+}
+
+// Gives the degree of a bus.
+#[no_mangle]
+pub extern "C" fn share_sheet_degree(table: &[u16], bus: usize, degree: &mut usize) -> u8
+    ensures answer { λ r. ⌜ r ≡ numberFor (degreeOutcome (now (table .entry)) bus) ⌝ }
+    ensures value { λ _. ⌜ now (degree .exit) ≡ valuesOr (now (degree .entry)) (degreeOutcome (now (table .entry)) bus) ⌝ }
+{
+    match lookup::degree(table, bus) {
+        BusDegree::Refused(cause) => cause.number(),
+        BusDegree::Is(neighbours) => {
+            *degree = neighbours;
+            0
+        }
+    }
+}
+
+// Stores the numerators of all buses, and gives L.
+#[no_mangle]
+pub extern "C" fn share_sheet_shares(table: &[u16], numerators: &mut [u64], over: &mut u64) -> u8
+    ensures answer { λ r. ⌜ r ≡ numberFor (sharesOutcome (now (table .entry)) (length (now (numerators .entry)))) ⌝ }
+    ensures value { λ _. ⌜ now (over .exit) ≡ valuesOr (now (over .entry)) (sharesOutcome (now (table .entry)) (length (now (numerators .entry)))) ⌝ }
+    ensures stored { λ _. ⌜ now (numerators .exit) ≡ numeratorsAfter (now (table .entry)) (now (numerators .entry)) ⌝ }
+    ensures fair { λ r. ⌜ AllFair (now (table .entry)) (length (now (numerators .entry))) (told r (now (over .exit))) (now (numerators .exit)) ⌝ }
+{
+    match scorer::shares(table, numerators) {
+        AllShares::Refused(cause) => cause.number(),
+        AllShares::Over(denominator) => {
+            *over = denominator;
+            0
+        }
+    }
+}
+
+// Gives the numerator of one bus, and L.
+#[no_mangle]
+pub extern "C" fn share_sheet_share(
+    table: &[u16],
+    bus: usize,
+    numerator: &mut u64,
+    over: &mut u64,
+) -> u8
+    ensures answer { λ r. ⌜ r ≡ numberFor (shareOutcome (now (table .entry)) bus) ⌝ }
+    ensures values { λ _. ⌜ (now (numerator .exit), now (over .exit)) ≡ valuesOr (now (numerator .entry), now (over .entry)) (shareOutcome (now (table .entry)) bus) ⌝ }
+    ensures fair { λ r. ⌜ OneFair (now (table .entry)) bus (told r (now (numerator .exit), now (over .exit))) ⌝ }
+{
+    match scorer::share(table, bus) {
+        OneShare::Refused(cause) => cause.number(),
+        OneShare::Is(part, whole) => {
+            *numerator = part;
+            *over = whole;
+            0
+        }
+    }
+}
+
+// Gives a fraction in lowest terms.
+#[no_mangle]
+pub extern "C" fn share_sheet_cancel(
+    numerator: u64,
+    denominator: u64,
+    top: &mut u64,
+    bottom: &mut u64,
+) -> u8
+    ensures answer { λ r. ⌜ r ≡ numberFor (cancelOutcome numerator denominator) ⌝ }
+    ensures values { λ _. ⌜ (now (top .exit), now (bottom .exit)) ≡ valuesOr (now (top .entry), now (bottom .entry)) (cancelOutcome numerator denominator) ⌝ }
+    ensures rule { λ r. ⌜ CancelRule numerator denominator (told r (now (top .exit), now (bottom .exit))) ⌝ }
+{
+    match fraction::cancel(numerator, denominator) {
+        Cancelled::Refused(cause) => cause.number(),
+        Cancelled::Pair(lowest, under) => {
+            *top = lowest;
+            *bottom = under;
+            0
+        }
+    }
+}
+
+// Writes one line of the sheet at the front of a lent text, and gives its byte count.
+#[no_mangle]
+pub extern "C" fn share_sheet_line(
+    table: &[u16],
+    line: usize,
+    text: &mut [u8],
+    bytes: &mut usize,
+) -> u8
+    ensures answer { λ r. ⌜ r ≡ numberFor (lineOutcome (now (table .entry)) line (length (now (text .entry)))) ⌝ }
+    ensures value { λ _. ⌜ now (bytes .exit) ≡ valuesOr (now (bytes .entry)) (lineOutcome (now (table .entry)) line (length (now (text .entry)))) ⌝ }
+    ensures written { λ _. ⌜ now (text .exit) ≡ lineAfter (now (table .entry)) line (now (text .entry)) ⌝ }
+{
+    match sheet::line(table, line, text) {
+        Written::Refused(cause) => cause.number(),
+        Written::Bytes(count) => {
+            *bytes = count;
+            0
+        }
+    }
+}
