@@ -3,12 +3,12 @@ use mathlib.Core.Bool.{cond}
 use mathlib.Core.List.{List, [], _∷_, _++_}
 use mathlib.Core.Path.{_≡_, refl, sym, ap, ap₂, _∙_}
 use Prim.Native.Nat.{ℕ, zero, suc, _+_, _-_, _≤_, _<_}
-use native.Mathlib.Nat.{zero-lt-suc, not-suc-le-zero}
+use native.Mathlib.Nat.{zero-lt-suc, not-suc-le-zero, sub-zero, zero-sub, suc-sub-suc}
 use native.Mathlib.Numerals.{add-one}
 use native.Mathlib.Omega.{arith}
 use lib.Dec.{eqb, ltb, leb}
 use lib.ListN.{length, set, replicate, take, drop, length-take, length-drop, List·getD-append}
-use lib.Seq.{getD-set-same, getD-set-other, take-suc, getD-take, getD-drop, take-append-le, drop-append-le, getD-append-add, take-at, drop-at}
+use lib.Seq.{getD-set-same, getD-set-other, take-suc, getD-take, getD-drop, take-append-le, drop-append-le, getD-append-add, take-at, drop-at, take-nil, take-take, drop-drop}
 use borrow.Author.Tests.{eqb-true, eqb-false, ltb-true, ltb-false, leb-true, leb-false, lt-ltb, le-ltb, ne-eqb}
 use Rattle.lists.specs.Lists.{tally, countBy, count, _∈_, has, Once, at, part, Ascending}
 use Rattle.lists.specs.Tests.{split}
@@ -65,6 +65,20 @@ part-append a e l m h =
     (λ t. let g = leb-true a (length l) t in
     ap (take (e - a)) (drop-append-le a l m g) ∙ take-append-le (e - a) (drop a l) m (omega (arith, length-drop a l)))
     (λ t. let g = leb-false a (length l) t in let z : e - a ≡ 0 = omega arith in rw z)
+
+-- a part of a part
+drop-take : (a n : ℕ) (l : List ℕ) → drop a (take n l) ≡ take (n - a) (drop a l)
+drop-take zero n l = ap (λ m. take m l) (sym (sub-zero n))
+drop-take (suc a) zero l = ap (λ m. take m (drop (suc a) l)) (sym (zero-sub (suc a)))
+drop-take (suc a) (suc n) [] = sym (take-nil (suc n - suc a))
+drop-take (suc a) (suc n) (x ∷ l) = drop-take a n l ∙ ap (λ m. take m (drop a l)) (sym (suc-sub-suc n a))
+
+pub part-part : (a e f g : ℕ) (l : List ℕ) → f + e ≤ g → part a e (part f g l) ≡ part (f + a) (f + e) l
+part-part a e f g l h =
+    let same : e - a ≡ f + e - (f + a) = omega arith in
+    ap (take (e - a)) (drop-take a (g - f) (drop f l) ∙ ap (take (g - f - a)) (drop-drop a f l))
+    ∙ take-take (e - a) (g - f - a) (drop (f + a) l) (omega arith)
+    ∙ ap (λ m. take m (drop (f + a) l)) same
 
 -- what stands between f and r
 pub part-between : (f m r : List ℕ) {a e : ℕ} → a ≡ length f → e ≡ a + length m → part a e (f ++ (m ++ r)) ≡ m

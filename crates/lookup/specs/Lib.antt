@@ -1,2 +1,2 @@
--- What an answer of Degree stands for.
+-- What answers of Degree and of a row's place stand for.
 pub mod Answers

@@ -1,15 +1,22 @@
-// Degree and Row: how many neighbours a bus of a lent table has, and which.
+// Degree and Row: how many neighbours a bus of a lent table has, which, and where they stand.
 ghost use mathlib.Core.Path.{_≡_};
-ghost use Rattle.tables.specs.Answers.{degreeOutcome, rowOutcome};
-ghost use Rattle.lookup.specs.Answers.{degreeSays};
+ghost use Rattle.tables.specs.Answers.{degreeOutcome, rowOutcome, rowPlaceOutcome, RowStands};
+ghost use Rattle.lookup.specs.Answers.{degreeSays, placeSays};
 pub use network::Refusal;
 use network::table::neighbours;
+use network::table::row_start;
 use network::table::size;
 use table_test::holds;
 
 // How many neighbours a bus has, or why it is not said.
 pub enum BusDegree {
     Is(usize),
+    Refused(Refusal),
+}
+
+// Where a bus's row begins in the lent table, and how many entries it has, or why it is not said.
+pub enum RowPlace {
+    At(usize, usize),
     Refused(Refusal),
 }
 
@@ -37,4 +44,18 @@ pub fn row(table: &[u16], bus: usize) -> &[u16]
         return &table[..0];
     }
     neighbours(table, bus)
+}
+
+// Where in the lent table `row` finds its part, for callers who cannot be handed one.
+pub fn row_place(table: &[u16], bus: usize) -> RowPlace
+    ensures answer { λ r. ⌜ placeSays r ≡ rowPlaceOutcome (now (table .entry)) bus ⌝ }
+    ensures stands { λ r. ⌜ RowStands (now (table .entry)) bus (placeSays r) ⌝ }
+{
+    if !holds(table) {
+        return RowPlace::Refused(Refusal::NoNetwork);
+    }
+    if size(table) <= bus {
+        return RowPlace::Refused(Refusal::NoSuchBus);
+    }
+    RowPlace::At(row_start(table, bus), neighbours(table, bus).len())
 }

@@ -2,7 +2,7 @@
 ghost use mathlib.Core.Path.{_≡_};
 ghost use Prim.Native.Nat.{_+_, _≤_, _<_};
 ghost use lib.ListN.{length};
-ghost use Rattle.tables.specs.Layout.{size, needs, starts, links, startsAt, row, lines};
+ghost use Rattle.tables.specs.Layout.{size, needs, starts, links, startsAt, row, rowStart, lines};
 ghost use Rattle.tables.specs.Holds.{Complete, Holds};
 use super::rows::entry;
 use super::rows::row_at;
@@ -59,6 +59,15 @@ pub fn neighbours(table: &[u16], bus: usize) -> &[u16]
 {
     let h = starts_at(table);
     row_at(starts(table, h), links(table, h), bus)
+}
+
+// Where the neighbours of a bus begin in the table.
+pub fn row_start(table: &[u16], bus: usize) -> usize
+    requires { ⌜ Holds (now table) × (bus < size (now table)) ⌝ }
+    ensures { λ r. ⌜ r ≡ rowStart (now (table .entry)) bus ⌝ }
+{
+    let h = starts_at(table);
+    h + size(table) + 1 + entry(starts(table, h), bus)
 }
 
 // How many lines: half as many as neighbour numbers.

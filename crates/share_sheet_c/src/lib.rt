@@ -3,7 +3,8 @@
 ghost use mathlib.Core.Path.{_≡_};
 ghost use lib.ListN.{length};
 ghost use Rattle.refusals.specs.Outcomes.{valuesOr};
-ghost use Rattle.tables.specs.Answers.{degreeOutcome};
+ghost use Rattle.tables.specs.Limits.{maxBuses, maxEntries, maxBytes};
+ghost use Rattle.tables.specs.Answers.{degreeOutcome, rowPlaceOutcome, RowStands};
 ghost use Rattle.reading.specs.Read.{readOutcome, tableAfter};
 ghost use Rattle.shares.specs.Answers.{sharesOutcome, numeratorsAfter, AllFair, shareOutcome, OneFair};
 ghost use Rattle.fraction.specs.Cancel.{cancelOutcome, CancelRule};
@@ -11,6 +12,8 @@ ghost use Rattle.sheet.specs.Answers.{lineOutcome, lineAfter};
 ghost use Rattle.share_sheet_c.specs.Told.{numberFor, told, counted};
 use fraction::Cancelled;
 use lookup::BusDegree;
+use lookup::RowPlace;
+use network::Network;
 use reader::Reading;
 use scorer::AllShares;
 use scorer::OneShare;
@@ -48,6 +51,28 @@ pub extern "C" fn share_sheet_degree(table: &[u16], bus: usize, degree: &mut usi
         BusDegree::Refused(cause) => cause.number(),
         BusDegree::Is(neighbours) => {
             *degree = neighbours;
+            0
+        }
+    }
+}
+
+// Gives where the row of a bus begins in the table, and how many entries it has.
+#[no_mangle]
+pub extern "C" fn share_sheet_row(
+    table: &[u16],
+    bus: usize,
+    start: &mut usize,
+    length: &mut usize,
+) -> u8
+    ensures answer { λ r. ⌜ r ≡ numberFor (rowPlaceOutcome (now (table .entry)) bus) ⌝ }
+    ensures values { λ _. ⌜ (now (start .exit), now (length .exit)) ≡ valuesOr (now (start .entry), now (length .entry)) (rowPlaceOutcome (now (table .entry)) bus) ⌝ }
+    ensures stands { λ r. ⌜ RowStands (now (table .entry)) bus (told r (now (start .exit), now (length .exit))) ⌝ }
+{
+    match lookup::row_place(table, bus) {
+        RowPlace::Refused(cause) => cause.number(),
+        RowPlace::At(first, entries) => {
+            *start = first;
+            *length = entries;
             0
         }
     }
@@ -133,4 +158,28 @@ pub extern "C" fn share_sheet_line(
             0
         }
     }
+}
+
+// The most buses of a network: as many numerators are enough for each.
+#[no_mangle]
+pub extern "C" fn share_sheet_max_buses() -> usize
+    ensures { λ r. ⌜ r ≡ maxBuses ⌝ }
+{
+    Network::BUSES
+}
+
+// The most entries of a table: as many are enough for each network.
+#[no_mangle]
+pub extern "C" fn share_sheet_max_entries() -> usize
+    ensures { λ r. ⌜ r ≡ maxEntries ⌝ }
+{
+    Network::ENTRIES
+}
+
+// The most bytes of a file.
+#[no_mangle]
+pub extern "C" fn share_sheet_max_bytes() -> usize
+    ensures { λ r. ⌜ r ≡ maxBytes ⌝ }
+{
+    Network::BYTES
 }

@@ -3,11 +3,13 @@
 use mathlib.Core.Bool.{not}
 use mathlib.Core.List.{List, [], _∷_}
 use mathlib.Core.Path.{_≡_}
-use Prim.Native.Nat.{ℕ}
+use Prim.Native.Nat.{ℕ, _+_, _≤_}
 use lib.Dec.{ltb}
+use lib.ListN.{length}
+use Rattle.lists.specs.Lists.{part}
 use Rattle.refusals.specs.declared.Refusal.the-variants.{NoNetwork, NoSuchBus}
-use Rattle.refusals.specs.Outcomes.{Outcome, Cause, _⇒_, outcome, valuesOr}
-use Rattle.tables.specs.Layout.{size, needs, row, degree}
+use Rattle.refusals.specs.Outcomes.{Outcome, gives, refuses, Cause, _⇒_, outcome, valuesOr}
+use Rattle.tables.specs.Layout.{size, needs, row, rowStart, degree}
 use Rattle.tables.specs.Holds.{holds}
 
 -- why any call on a table is refused: the slice holds no network, which is tested first; then the call's own causes
@@ -25,6 +27,15 @@ degreeOutcome t bus = outcome (busCauses t bus) (degree t bus)
 abbrev pub rowOutcome : List ℕ → ℕ → List ℕ
 rowOutcome t bus = valuesOr [] (outcome (busCauses t bus) (row t bus))
 
+-- where the row of a bus begins in the slice, and how many entries it has: Row for callers who cannot be handed a part of a slice
+abbrev pub rowPlaceOutcome : List ℕ → ℕ → Outcome (ℕ × ℕ)
+rowPlaceOutcome t bus = outcome (busCauses t bus) (rowStart t bus, degree t bus)
+
+-- the entries at that place are what Row gives; where no place is given, Row gives the empty part
+abbrev pub RowStands : List ℕ → ℕ → Outcome (ℕ × ℕ) → Type 0
+RowStands t bus (gives (start, many)) = (start + many ≤ length t) × (part start (start + many) t ≡ rowOutcome t bus)
+RowStands t bus (refuses number) = rowOutcome t bus ≡ []
+
 -- two slices are the same network to every call, or both are none
 pub record Alike (a b : List ℕ) : Type 0 where
   pub judged : holds a ≡ holds b
@@ -33,3 +44,4 @@ pub record Alike (a b : List ℕ) : Type 0 where
   pub rows : (i : ℕ) → row a i ≡ row b i
   pub degreeAnswers : (bus : ℕ) → degreeOutcome a bus ≡ degreeOutcome b bus
   pub rowAnswers : (bus : ℕ) → rowOutcome a bus ≡ rowOutcome b bus
+  pub placeAnswers : (bus : ℕ) → rowPlaceOutcome a bus ≡ rowPlaceOutcome b bus

@@ -53,6 +53,10 @@ startsAt t = 1 + size t
 unfoldable pub row : List ℕ → ℕ → List ℕ
 row t i = rowAt (starts (startsAt t) t) (links (startsAt t) t) i
 
+-- where they begin in the table: behind the row starts, and behind the rows before
+abbrev pub rowStart : List ℕ → ℕ → ℕ
+rowStart t i = startsAt t + size t + 1 + at (starts (startsAt t) t) i
+
 abbrev pub degree : List ℕ → ℕ → ℕ
 degree t i = length (row t i)
 

@@ -1,6 +1,6 @@
 -- Laws of rows and of the sections of a table. Assumes nothing.
 use mathlib.Core.List.{List}
-use mathlib.Core.Path.{_≡_, ap, ap₂, _∙_}
+use mathlib.Core.Path.{_≡_, sym, ap, ap₂, _∙_}
 use Prim.Native.Nat.{ℕ, _+_, _-_, _≤_, _<_}
 use native.Mathlib.Nat.{le-refl, le-trans}
 use native.Mathlib.Numerals.{add-one}
@@ -8,10 +8,10 @@ use native.Mathlib.Decide.{le-ind}
 use native.Mathlib.Omega.{arith}
 use lib.ListN.{length}
 use Rattle.lists.specs.Lists.{_∈_, at, part, Once}
-use Rattle.lists.specs.Places.{length-part, at-part, ascending-once, at-in}
+use Rattle.lists.specs.Places.{length-part, at-part, part-part, ascending-once, at-in}
 use Rattle.tables.specs.Limits.{maxDegree}
-use Rattle.tables.specs.Layout.{rowAt, size, needs, starts, last, entries, links, startsAt, row}
-use Rattle.tables.specs.Holds.{Complete, Spans, TidyRow}
+use Rattle.tables.specs.Layout.{rowAt, size, needs, starts, last, entries, links, startsAt, row, rowStart, degree}
+use Rattle.tables.specs.Holds.{Complete, Spans, TidyRow, Holds}
 
 -- a row between the starts a and e, as code reads it
 pub row-read : (s l : List ℕ) (i : ℕ) {a e : ℕ} → a ≡ at s i → e ≡ at s (i + 1) → part a e l ≡ rowAt s l i
@@ -70,6 +70,10 @@ pub row-in : (t : List ℕ) (i : ℕ) {h : ℕ} {s l : List ℕ} → h ≡ start
 unfolding row
 row-in t i eh es el = rw (es, el, eh)
 
+-- and where it begins, its row start being x
+pub start-read : (t : List ℕ) (i : ℕ) {h n x : ℕ} {s : List ℕ} → h ≡ startsAt t → n ≡ size t → s ≡ starts h t → x ≡ at s i → h + n + 1 + x ≡ rowStart t i
+start-read t i eh en es ex = rw (ex, es, eh, en)
+
 -- ---- and how long they are
 
 pub length-needs : (t : List ℕ) → Complete (startsAt t) t → length (needs t) ≡ size t
@@ -91,3 +95,32 @@ module _ (h : ℕ) (t : List ℕ) (w : Complete h t) where
 
   pub room : (size t < length (starts h t)) × (at (starts h t) (size t) ≤ length (links h t))
   room = (omega (arith, length-starts), omega (arith, last-start, length-links))
+
+-- ---- and where rows stand
+
+module _ (t : List ℕ) (w : Holds t) (i : ℕ) (b : i < size t) where
+  abbrev s : List ℕ
+  s = starts (startsAt t) t
+
+  abbrev l : List ℕ
+  l = links (startsAt t) t
+
+  -- the neighbour numbers begin here
+  abbrev first : ℕ
+  first = startsAt t + size t + 1
+
+  next : at s (i + 1) ≤ last (startsAt t) t
+  next = omega (arith, row-lies (size t) s l (w .rows .spans) i b .2, length-links (startsAt t) t (w .complete))
+
+  ends : rowStart t i + degree t i ≡ first + at s (i + 1)
+  unfolding row
+  ends = omega (arith, row-length (size t) s l (w .rows .spans) i b, row-lies (size t) s l (w .rows .spans) i b .1)
+
+  -- a row stands within the slice
+  pub row-within : rowStart t i + degree t i ≤ length t
+  row-within = omega (arith, ends, next, w .complete .whole)
+
+  -- the entries from its start on, as many as it has, are the row
+  pub row-stands : part (rowStart t i) (rowStart t i + degree t i) t ≡ row t i
+  unfolding row rowAt links
+  row-stands = ap (λ e. part (rowStart t i) e t) ends ∙ sym (part-part (at s i) (at s (i + 1)) first (entries (startsAt t) t) t (omega (arith, next)))

@@ -1,0 +1,57 @@
+-- `lookup::row_place` meets its contract. Assumes nothing.
+use borrow.Author.Needs.{needs}
+use native.Mathlib.Omega.{arith}
+use mathlib.Core.Bool.{true}
+use mathlib.Core.Path.{_≡_, sym, ap, ap₂, _∙_}
+use Prim.Native.Nat.{_<_}
+use lib.ListN.{length}
+use Rattle.lists.specs.Tests.{passed, failed}
+use Rattle.refusals.specs.Outcomes.{gives}
+use Rattle.tables.specs.Layout.{size}
+use Rattle.tables.specs.Holds.{holds, Holds}
+use Rattle.tables.specs.Facts.{holds-facts}
+use Rattle.tables.specs.Calls.{no-network, no-bus, given, placed}
+use Rattle.lookup.proofs.row_place.Statement.{statement}
+use Rattle.lookup.proofs.row_place.Tie as tie
+
+-- the slice holds a network
+held : (c : tie.Else1) → holds (c .before .before .before .args .table .now) ≡ true
+held c = passed (c .before .holds .ensures) (c .if1 .left)
+
+-- which has the bus
+has-bus : (c : tie.Else2) → let a = c .before .before .before .before .before .args in Holds (a .table .now) × (a .bus < size (a .table .now))
+has-bus c = (holds-facts _ (held (c .before .before)), omega (arith, c .before .size .ensures .0, c .if2 .left))
+
+returns : tie.Need-returns
+returns c = placed _ _ (sym (no-network _ _ _ (failed (c .before .holds .ensures) (c .if1 .taken))))
+
+size-requires : tie.Need-size-requires
+size-requires c κs = let z = holds-facts _ (held c) .complete in omega arith
+
+returns-2 : tie.Need-returns-2
+returns-2 c = placed _ _ (sym (no-bus _ _ _ (held (c .before .before)) (c .before .size .ensures .0) (c .if2 .taken)))
+
+row-start-requires : tie.Need-row-start-requires
+row-start-requires c κs = has-bus c
+
+neighbours-requires : tie.Need-neighbours-requires
+neighbours-requires c κs = has-bus (c .before)
+
+returns-3 : tie.Need-returns-3
+returns-3 c =
+    let e = c .before .before in
+    placed _ _
+    (ap₂ (λ start many. gives (start, many)) (c .before .row-start .ensures) (ap length (c .neighbours .ensures))
+    ∙ sym (given _ _ _ (held (e .before .before)) (e .before .size .ensures .0) (e .if2 .left)))
+
+pub row-place-spec : {M : Type 1} → statement M
+row-place-spec =
+    tie.close
+    (tie.spec
+    (λ c κs. search needs)
+    returns
+    size-requires
+    returns-2
+    row-start-requires
+    neighbours-requires
+    returns-3)
