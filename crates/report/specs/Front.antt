@@ -6,7 +6,8 @@ use lib.ListN.{take}
 use Rattle.tables.specs.Limits.{maxBytes, maxEntries}
 use Rattle.reading.specs.Read.{fileTable}
 use Rattle.reading.specs.Front.{long-refused, front-refused, by-front}
-use Rattle.report.specs.Report.{wholeSheet, sheetOr, printed}
+use Rattle.whole_sheet.specs.Whole.{wholeSheet}
+use Rattle.report.specs.Report.{sheetOr, printed}
 
 -- THE FRONT SUFFICES
 pub front-printed : (f : List ℕ) → printed (take (maxBytes + 1) f) ≡ printed f

@@ -1,20 +1,16 @@
 -- What is printed once Read has answered. Assumes nothing.
 use mathlib.Core.List.{List}
-use mathlib.Core.Path.{_≡_, sym, ap, _∙_, fun-ext}
+use mathlib.Core.Path.{_≡_, sym, ap, _∙_}
 use Prim.Native.Nat.{ℕ}
 use lib.ListN.{length}
 use Rattle.refusals.specs.Outcomes.{gives, refuses}
-use Rattle.lists.specs.Below.{joinBelow}
-use Rattle.tables.specs.Answers.{Alike}
 use Rattle.tables.specs.Limits.{maxEntries}
 use Rattle.format.specs.declared.Counts.{Counts}
 use Rattle.reading.specs.Read.{readOutcome, fileTable, tableAfter}
 use Rattle.reading.specs.Recorded.{stored-alike}
-use Rattle.sheet.specs.Same.{same-line}
-use Rattle.report.specs.Report.{wholeSheet, refusedLine, sheetOr, printed}
-
-same-sheet : {a b : List ℕ} → Alike a b → wholeSheet a ≡ wholeSheet b
-same-sheet w = rw (w .sizes) (ap (joinBelow _) (fun-ext (same-line w)))
+use Rattle.whole_sheet.specs.Whole.{wholeSheet}
+use Rattle.whole_sheet.specs.Same.{same-sheet}
+use Rattle.report.specs.Report.{refusedLine, sheetOr, printed}
 
 -- Read was lent x, which has room for any table
 module _ (f x : List ℕ) (room : length x ≡ maxEntries) where

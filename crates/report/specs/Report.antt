@@ -1,17 +1,11 @@
 -- What the sheet program prints for a file. Definitions only. Assumes nothing.
 use mathlib.Core.List.{List, [], _∷_}
-use Prim.Native.Nat.{ℕ, _+_}
-use Rattle.lists.specs.Below.{joinBelow}
+use Prim.Native.Nat.{ℕ}
 use Rattle.refusals.specs.Outcomes.{Outcome, gives, refuses}
 use Rattle.text.specs.Text.{filled}
 use Rattle.tables.specs.Limits.{maxEntries}
-use Rattle.tables.specs.Layout.{size}
 use Rattle.reading.specs.Read.{readOutcome, fileTable}
-use Rattle.sheet.specs.Sheet.{sheetLine}
-
--- sheet lines 0 to n
-abbrev pub wholeSheet : List ℕ → List ℕ
-wholeSheet t = joinBelow (size t + 1) (sheetLine t)
+use Rattle.whole_sheet.specs.Whole.{wholeSheet}
 
 -- `refused #`, ended by byte 10
 abbrev pub refusedForm : List ℕ

@@ -9,6 +9,8 @@ ghost use Rattle.reading.specs.Read.{readOutcome, tableAfter};
 ghost use Rattle.shares.specs.Answers.{sharesOutcome, numeratorsAfter, AllFair, shareOutcome, OneFair};
 ghost use Rattle.fraction.specs.Cancel.{cancelOutcome, CancelRule};
 ghost use Rattle.sheet.specs.Answers.{lineOutcome, lineAfter};
+ghost use Rattle.whole_sheet.specs.Whole.{sheetOutcome, sheetAfter};
+ghost use Rattle.whole_sheet.specs.Work.{longestSheet};
 ghost use Rattle.share_sheet_c.specs.Told.{numberFor, told, counted};
 use fraction::Cancelled;
 use lookup::BusDegree;
@@ -18,6 +20,7 @@ use reader::Reading;
 use scorer::AllShares;
 use scorer::OneShare;
 use sheet::Written;
+use whole_sheet::Longest;
 
 // Reads a file into a lent table, and gives n and m.
 #[no_mangle]
@@ -160,6 +163,22 @@ pub extern "C" fn share_sheet_line(
     }
 }
 
+// Writes the whole sheet at the front of a lent text, and gives its byte count.
+#[no_mangle]
+pub extern "C" fn share_sheet_whole(table: &[u16], text: &mut [u8], bytes: &mut usize) -> u8
+    ensures answer { λ r. ⌜ r ≡ numberFor (sheetOutcome (now (table .entry)) (length (now (text .entry)))) ⌝ }
+    ensures value { λ _. ⌜ now (bytes .exit) ≡ valuesOr (now (bytes .entry)) (sheetOutcome (now (table .entry)) (length (now (text .entry)))) ⌝ }
+    ensures written { λ _. ⌜ now (text .exit) ≡ sheetAfter (now (table .entry)) (now (text .entry)) ⌝ }
+{
+    match whole_sheet::whole(table, text) {
+        Written::Refused(cause) => cause.number(),
+        Written::Bytes(count) => {
+            *bytes = count;
+            0
+        }
+    }
+}
+
 // The most buses of a network: as many numerators are enough for each.
 #[no_mangle]
 pub extern "C" fn share_sheet_max_buses() -> usize
@@ -182,4 +201,12 @@ pub extern "C" fn share_sheet_max_bytes() -> usize
     ensures { λ r. ⌜ r ≡ maxBytes ⌝ }
 {
     Network::BYTES
+}
+
+// The most bytes of a sheet: as many are enough for each network's, and for each of its lines.
+#[no_mangle]
+pub extern "C" fn share_sheet_max_text() -> usize
+    ensures { λ r. ⌜ r ≡ longestSheet ⌝ }
+{
+    Longest::SHEET
 }

@@ -10,7 +10,7 @@ use Rattle.tables.specs.Limits.{maxEntries}
 use Rattle.file.specs.Answers.{readingSays}
 use Rattle.reading.specs.Read.{readOutcome}
 use Rattle.reading.specs.Recorded.{recorded}
-use Rattle.report.specs.Report.{wholeSheet}
+use Rattle.whole_sheet.specs.Whole.{wholeSheet}
 use Rattle.report.specs.Printing.{print-sheet, print-refusal}
 use Rattle.report.proofs.report.Statement.{statement}
 use Rattle.report.proofs.report.Tie as tie

@@ -9,8 +9,8 @@ use Rattle.lists.specs.Lists.{put}
 use Rattle.text.specs.Text.{filled}
 use Rattle.text.specs.Words.{words-none, words-more}
 use Rattle.report.specs.Report.{refusedForm, refusedLine}
-use Rattle.report.specs.Work.{longestLine}
-use Rattle.report.specs.Lines.{line-few}
+use Rattle.whole_sheet.specs.Work.{longestLine}
+use Rattle.whole_sheet.specs.Lines.{line-few}
 use Rattle.report.proofs.write_refusal.Statement.{statement}
 use Rattle.report.proofs.write_refusal.Tie as tie
 

@@ -1,4 +1,4 @@
--- `report::write_lines` meets its contract. The loop's invariant: the lines passed are written. Assumes nothing.
+-- `whole_sheet::write_lines` meets its contract. The loop's invariant: the lines passed are written. Assumes nothing.
 use borrow.Author.Needs.{needs}
 use native.Mathlib.Omega.{arith}
 use mathlib.Core.Path.{_≡_, refl, sym, ap, _∙_}
@@ -11,9 +11,9 @@ use Rattle.lists.specs.Writes.{put-none, stored-length, stored-list}
 use Rattle.tables.specs.Limits.{maxBuses}
 use Rattle.tables.specs.Layout.{size}
 use Rattle.sheet.specs.Sheet.{sheetLine}
-use Rattle.report.specs.Work.{longestLine}
-use Rattle.report.proofs.write_lines.Statement.{statement}
-use Rattle.report.proofs.write_lines.Tie as tie
+use Rattle.whole_sheet.specs.Work.{longestLine}
+use Rattle.whole_sheet.proofs.write_lines.Statement.{statement}
+use Rattle.whole_sheet.proofs.write_lines.Tie as tie
 
 abbrev Inv-loop : tie.InvT-loop
 Inv-loop table over numerators out₀ n end₀ i₀ out end i =

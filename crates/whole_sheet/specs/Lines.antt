@@ -16,7 +16,7 @@ use Rattle.text.specs.Text.{sign, filled}
 use Rattle.text.specs.Words.{Words}
 use Rattle.text.specs.Filled.{filled-few}
 use Rattle.sheet.specs.Sheet.{sheetLine}
-use Rattle.report.specs.Work.{longestLine, Scored}
+use Rattle.whole_sheet.specs.Work.{longestLine, Scored}
 
 -- a line with 64-bit numbers: each `#` of its template becomes at most 20 digits
 pub line-few : (form numbers : List ℕ) → length form + 19 * count sign form ≤ longestLine → Words numbers → length (filled form numbers) ≤ longestLine

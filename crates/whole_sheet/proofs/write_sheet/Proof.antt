@@ -1,12 +1,12 @@
--- `report::write_sheet` meets its contract. Assumes nothing.
+-- `whole_sheet::write_sheet` meets its contract. Assumes nothing.
 use borrow.Author.Needs.{needs}
 use native.Mathlib.Omega.{arith}
 use Prim.Native.Nat.{ℕ}
 use lib.ListN.{replicate, length-replicate}
 use Rattle.tables.specs.Limits.{maxBuses}
-use Rattle.report.specs.Lines.{scored}
-use Rattle.report.proofs.write_sheet.Statement.{statement}
-use Rattle.report.proofs.write_sheet.Tie as tie
+use Rattle.whole_sheet.specs.Lines.{scored}
+use Rattle.whole_sheet.proofs.write_sheet.Statement.{statement}
+use Rattle.whole_sheet.proofs.write_sheet.Tie as tie
 
 write-lines-requires : tie.Need-write-lines-requires
 write-lines-requires c κs =

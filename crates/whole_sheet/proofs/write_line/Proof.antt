@@ -1,4 +1,4 @@
--- `report::write_line` meets its contract. Assumes nothing.
+-- `whole_sheet::write_line` meets its contract. Assumes nothing.
 use borrow.Author.Needs.{needs}
 use native.Mathlib.Omega.{arith}
 use mathlib.Core.Path.{_≡_, ap}
@@ -8,9 +8,9 @@ use Rattle.lists.specs.Lists.{at}
 use Rattle.tables.specs.Layout.{size}
 use Rattle.sheet.specs.Sheet.{headingForm, busForm}
 use Rattle.sheet.specs.Calls.{heading-read, bus-read}
-use Rattle.report.specs.Lines.{line-few, line-written}
-use Rattle.report.proofs.write_line.Statement.{statement}
-use Rattle.report.proofs.write_line.Tie as tie
+use Rattle.whole_sheet.specs.Lines.{line-few, line-written}
+use Rattle.whole_sheet.proofs.write_line.Statement.{statement}
+use Rattle.whole_sheet.proofs.write_line.Tie as tie
 
 fill-requires : tie.Need-fill-requires
 fill-requires c κs =

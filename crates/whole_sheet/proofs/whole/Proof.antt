@@ -1,0 +1,53 @@
+-- `whole_sheet::whole` meets its contract. Assumes nothing.
+use borrow.Author.Needs.{needs}
+use native.Mathlib.Omega.{arith}
+use mathlib.Core.Bool.{true}
+use mathlib.Core.Path.{_≡_, sym, ap, _∙_}
+use Prim.Native.Nat.{ℕ}
+use lib.ListN.{length, take, replicate, length-replicate}
+use Rattle.lists.specs.Tests.{passed, failed}
+use Rattle.tables.specs.Holds.{holds}
+use Rattle.tables.specs.Facts.{holds-facts}
+use Rattle.whole_sheet.specs.Whole.{wholeSheet}
+use Rattle.whole_sheet.specs.Work.{longestSheet}
+use Rattle.whole_sheet.specs.Calls.{written-front, no-network, as-text}
+use Rattle.whole_sheet.proofs.whole.Statement.{statement}
+use Rattle.whole_sheet.proofs.whole.Tie as tie
+
+-- the slice holds a network
+held : (c : tie.Else1) → holds (c .before .before .before .before .args .table .now) ≡ true
+held c = passed (c .before .holds .ensures) (c .if1 .left)
+
+-- the sheet was written aside
+aside : (c : tie.After-write-sheet) → take (c .write-sheet .result) (c .write-sheet .last .1 .0) ≡ wholeSheet (c .before .before .before .before .before .before .args .table .now)
+aside c = written-front _ (replicate longestSheet 0) (c .write-sheet .ensures .0 .0) (c .write-sheet .ensures .1)
+
+returns : tie.Need-returns
+returns c = no-network _ _ (failed (c .before .holds .ensures) (c .if1 .taken))
+
+write-sheet-requires : tie.Need-write-sheet-requires
+write-sheet-requires c κs = (holds-facts _ (held (c .before)), omega (arith, length-replicate {A = ℕ} longestSheet 0))
+
+slice-aggregate-place : tie.Need-slice-aggregate-place
+slice-aggregate-place c = let w = c .before .before in w .write-sheet .ensures .0 .0 ∙ sym (ap length (aside w))
+
+returns-2 : tie.Need-returns-2
+returns-2 c =
+    let p = c .before .before in
+    let w = p .before .before .before .before in
+    let a = w .before .before .before .before .before .before .args in
+    as-text (a .table .now) (a .out .now) (held (w .before .before)) (aside w) (p .place .ensures)
+
+pub whole-spec : {M : Type 1} → statement M
+whole-spec =
+    tie.close
+    (tie.spec
+    (λ c κs. search needs)
+    returns
+    (λ c. search needs)
+    write-sheet-requires
+    (λ c. search needs)
+    slice-aggregate-place
+    (λ c κs. search needs)
+    (λ c. search needs)
+    returns-2)

@@ -1,0 +1,28 @@
+-- How the call for a whole sheet comes out. Assumes nothing.
+use mathlib.Core.Bool.{true, false}
+use mathlib.Core.List.{List, _++_}
+use mathlib.Core.Path.{_≡_, refl, sym, ap, _∙_}
+use Prim.Native.Nat.{ℕ}
+use lib.ListN.{length, take, drop}
+use lib.Seq.{take-at}
+use Rattle.lists.specs.Lists.{put}
+use Rattle.lists.specs.Writes.{put-front}
+use Rattle.refusals.specs.Outcomes.{Outcome, refuses}
+use Rattle.tables.specs.Holds.{holds}
+use Rattle.sheet.specs.Calls.{TextDue}
+use Rattle.whole_sheet.specs.Whole.{wholeSheet, sheetOutcome, sheetAfter}
+
+-- a text that was written at the front of x, and is n bytes long, is the first n bytes there
+pub written-front : (text x : List ℕ) {n : ℕ} {y : List ℕ} → n ≡ length text → y ≡ put x 0 text → take n y ≡ text
+written-front text x {n} e w = ap (take n) (w ∙ put-front x text) ∙ take-at text _ n (sym e)
+
+-- an answer, and what bytes that held x hold after it, are those due for the sheet of t
+abbrev pub SheetDue : List ℕ → List ℕ → Outcome ℕ → List ℕ → Type 0
+SheetDue t x answer after = (answer ≡ sheetOutcome t (length x)) × (after ≡ sheetAfter t x)
+
+module _ (t x : List ℕ) where
+  pub no-network : holds t ≡ false → SheetDue t x (refuses 11) x
+  no-network h = rw h (refl, refl)
+
+  pub as-text : {text : List ℕ} {answer : Outcome ℕ} {after : List ℕ} → holds t ≡ true → text ≡ wholeSheet t → TextDue text x answer after → SheetDue t x answer after
+  as-text h e w = rw h (rw e at w)

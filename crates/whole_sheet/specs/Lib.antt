@@ -1,0 +1,7 @@
+-- Whole sheets: definitions, computed examples, then laws.
+pub mod Whole
+pub mod Examples
+pub mod Work
+pub mod Lines
+pub mod Calls
+pub mod Same
