@@ -1,9 +1,9 @@
 -- How the call for a whole sheet comes out. Assumes nothing.
 use mathlib.Core.Bool.{true, false}
-use mathlib.Core.List.{List, _++_}
+use mathlib.Core.List.{List}
 use mathlib.Core.Path.{_≡_, refl, sym, ap, _∙_}
 use Prim.Native.Nat.{ℕ}
-use lib.ListN.{length, take, drop}
+use lib.ListN.{length, take}
 use lib.Seq.{take-at}
 use Rattle.lists.specs.Lists.{put}
 use Rattle.lists.specs.Writes.{put-front}

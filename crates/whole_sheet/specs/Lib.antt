@@ -5,3 +5,4 @@ pub mod Work
 pub mod Lines
 pub mod Calls
 pub mod Same
+pub mod Fits
