@@ -1,0 +1,105 @@
+/* Share sheets for recorder sites: the proved library share_sheet_c, for C and C++.
+
+   A network is lent as a line table: 16-bit numbers that give the bus count, the needs, where
+   each bus's row starts, and the neighbours of each bus in ascending order. share_sheet_read
+   makes one from the bytes of a network file; a caller may also build one in memory. Entries
+   behind the table never matter. docs/FORMAT.md explains file, table, shares and sheet.
+
+   Rules for all pointers, which no function tests: a pointer is not NULL, not even where its
+   length is 0; it is aligned for its type and valid for all entries of its length; and what is
+   lent for writing overlaps nothing else that is lent to the same call. A length counts
+   entries, not bytes.
+
+   A call returns 0 if it is accepted, and then it has written its answers through the pointers.
+   Otherwise it returns the number of the cause, and nothing at all was changed. Of several
+   causes it gives the first in the order that stands with the function.
+
+     1  the file ends inside a count or a section
+     2  the bus count is 0 or above the limit
+     3  a need is 0 or above the limit
+     4  the line count is above the limit
+     5  bytes follow the last record
+     6  a record names a bus that the network does not have, or one bus twice
+     7  a bus stands in more records than it may have lines
+     8  two records name the same two buses, in either order
+     9  the denominator is 0
+    10  too few entries are lent for the table
+    11  the table lent holds no network
+    12  too few entries are lent for the numerators
+    13  the network does not have the bus, or the sheet does not have the line
+    14  too few bytes are lent for the text
+
+   No call allocates memory or keeps anything for the next one. Calls may run at the same time,
+   as long as none writes what another uses. */
+
+#ifndef SHARE_SHEET_H
+#define SHARE_SHEET_H
+
+#include <stddef.h>
+#include <stdint.h>
+
+#ifdef __cplusplus
+extern "C" {
+#endif
+
+/* Reads a network file: stores its line table at the front of `table` and gives the counts of
+   buses and of lines, n and m. The table takes 2n + 2 + 2m entries; later ones are left as they
+   were. Refused with 1 to 8 because of the file, then with 10 if `table` is shorter than that.
+   The counts are judged in file order, and after them all records for 6, all for 7, all for 8. */
+uint8_t share_sheet_read(const uint8_t *file, size_t file_len, uint16_t *table, size_t table_len,
+                         size_t *buses, size_t *lines);
+
+/* Gives the number of neighbours of a bus. Refused with 11, then with 13 if `bus` is n or above. */
+uint8_t share_sheet_degree(const uint16_t *table, size_t table_len, size_t bus, size_t *degree);
+
+/* Gives the part of `table` that lists the neighbours of a bus: `length` entries from
+   table[start] on, ascending. Refused as share_sheet_degree is. */
+uint8_t share_sheet_row(const uint16_t *table, size_t table_len, size_t bus, size_t *start,
+                        size_t *length);
+
+/* Stores the numerators of all n buses, bus 0 first, and gives the denominator that they are all
+   over. Later entries of `numerators` are left as they were. Refused with 11, then with 12 if
+   fewer than n entries are lent. */
+uint8_t share_sheet_shares(const uint16_t *table, size_t table_len, uint64_t *numerators,
+                           size_t numerators_len, uint64_t *over);
+
+/* Gives the numerator of one bus, and the denominator: what share_sheet_shares gives for it.
+   Refused with 11, then with 13 if `bus` is n or above. */
+uint8_t share_sheet_share(const uint16_t *table, size_t table_len, size_t bus,
+                          uint64_t *numerator, uint64_t *over);
+
+/* Gives a fraction in lowest terms; 0 over anything above 0 is 0/1. Refused with 9 if the
+   denominator is 0. */
+uint8_t share_sheet_cancel(uint64_t numerator, uint64_t denominator, uint64_t *top,
+                           uint64_t *bottom);
+
+/* Writes one line of the sheet at the front of `text`, with the newline that ends it and no NUL,
+   and gives its bytes: the heading for line 0, the line of bus i - 1 for line i. Later bytes are
+   left as they were. Refused with 11, then with 13 if `line` is above n, then with 14 if the
+   line has more than text_len bytes. */
+uint8_t share_sheet_line(const uint16_t *table, size_t table_len, size_t line, uint8_t *text,
+                         size_t text_len, size_t *bytes);
+
+/* Writes the whole sheet, lines 0 to n, as share_sheet_line writes each, and gives its bytes.
+   The table is tested once. Refused with 11, then with 14 if the sheet has more than text_len
+   bytes. */
+uint8_t share_sheet_whole(const uint16_t *table, size_t table_len, uint8_t *text,
+                          size_t text_len, size_t *bytes);
+
+/* The most buses that a network may have: so many numerators are always enough. */
+size_t share_sheet_max_buses(void);
+
+/* The entries of the largest line table: so many are always enough. */
+size_t share_sheet_max_entries(void);
+
+/* The bytes of the largest network file: one more than this shows that a file is too long. */
+size_t share_sheet_max_bytes(void);
+
+/* Bytes of text that are enough for every sheet, and so for each of its lines. */
+size_t share_sheet_max_text(void);
+
+#ifdef __cplusplus
+}
+#endif
+
+#endif
