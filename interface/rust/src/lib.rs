@@ -1,0 +1,366 @@
+//! Share sheets for recorder sites: for every bus of a power network, its fair part (Shapley
+//! value) of what recorders at all buses together can see.
+//!
+//! The calls are those of the proved library share_sheet_c, made safe. A network is lent as a
+//! *line table*: a slice of `u16` that [`read`] fills from a network file, or that the caller
+//! builds. `docs/FORMAT.md` of the repository explains file, table, shares and sheet.
+//!
+//! Nothing is allocated here, and nothing is kept between calls: callers lend the slices, and
+//! [`limits`] tells which lengths are always enough. A refused call gives a [`Refusal`] and
+//! changes nothing. Entries behind a table never matter.
+//!
+//! ```
+//! use share_sheet::{limits, read, whole_sheet};
+//!
+//! // three buses in a row, each with need 1
+//! let file = [3, 0, 1, 1, 1, 2, 0, 0, 0, 1, 0, 1, 0, 2, 0];
+//!
+//! let mut table = vec![0; limits().entries];
+//! read(&file, &mut table)?;
+//! let mut text = vec![0; limits().text_bytes];
+//! let bytes = whole_sheet(&table, &mut text)?;
+//!
+//! let sheet = std::str::from_utf8(&text[..bytes])?;
+//! print!("{sheet}");
+//! assert_eq!(sheet, "buses 3 lines 2 over 6\n0 1 1 5 5/6\n1 1 2 8 4/3\n2 1 1 5 5/6\n");
+//! # Ok::<(), Box<dyn std::error::Error>>(())
+//! ```
+#![deny(missing_docs)]
+#![forbid(unsafe_op_in_unsafe_fn)]
+
+mod raw;
+mod refusal;
+
+pub use refusal::Refusal;
+use std::fmt;
+
+/// How many buses and lines a network has.
+///
+/// ```
+/// use share_sheet::{read, Counts};
+///
+/// let file = [2, 0, 1, 1, 1, 0, 0, 0, 1, 0];
+/// assert_eq!(read(&file, &mut [0; 8]), Ok(Counts { buses: 2, lines: 1 }));
+/// ```
+#[derive(Clone, Copy, Debug, PartialEq, Eq, Hash)]
+pub struct Counts {
+    /// The number of buses, n. They are numbered from 0 to n - 1.
+    pub buses: usize,
+    /// The number of lines.
+    pub lines: usize,
+}
+
+/// A share, over the common denominator or in lowest terms.
+///
+/// ```
+/// use share_sheet::Fraction;
+///
+/// let share = Fraction { numerator: 4, denominator: 3 };
+/// assert_eq!(share.to_string(), "4/3");
+/// ```
+///
+/// Two fractions are equal if they are written alike: 8/6 is not 4/3 before it is cancelled.
+#[derive(Clone, Copy, Debug, PartialEq, Eq, Hash)]
+pub struct Fraction {
+    /// The number above the stroke.
+    pub numerator: u64,
+    /// The number below the stroke.
+    pub denominator: u64,
+}
+
+impl fmt::Display for Fraction {
+    fn fmt(&self, f: &mut fmt::Formatter<'_>) -> fmt::Result {
+        write!(f, "{}/{}", self.numerator, self.denominator)
+    }
+}
+
+/// Lengths that are enough for every network.
+///
+/// ```
+/// use share_sheet::{limits, Limits};
+///
+/// let Limits { buses, entries, file_bytes, text_bytes } = limits();
+/// let (table, numerators) = (vec![0u16; entries], vec![0u64; buses]);
+/// let (file, text) = (vec![0u8; file_bytes], vec![0u8; text_bytes]);
+/// # assert!([table.len(), numerators.len(), file.len(), text.len()].iter().all(|&l| l > 0));
+/// ```
+#[derive(Clone, Copy, Debug, PartialEq, Eq, Hash)]
+pub struct Limits {
+    /// The most buses that a network may have: numerators that are enough for [`shares`].
+    pub buses: usize,
+    /// The entries of the largest line table: enough for [`read`].
+    pub entries: usize,
+    /// The bytes of the largest network file. One byte more shows that a file is too long.
+    pub file_bytes: usize,
+    /// Bytes that are enough for [`whole_sheet`], and so for [`sheet_line`].
+    pub text_bytes: usize,
+}
+
+/// Gives the lengths that are enough for every network.
+///
+/// ```
+/// use share_sheet::{limits, read, Refusal};
+/// use std::io::Read;
+///
+/// // input without end: a byte more than the largest file has is enough to judge it
+/// let input = std::io::repeat(1);
+/// let mut file = Vec::new();
+/// input.take(limits().file_bytes as u64 + 1).read_to_end(&mut file)?;
+/// let mut table = vec![0; limits().entries];
+/// assert_eq!(read(&file, &mut table), Err(Refusal::FileTooLong));
+/// # Ok::<(), std::io::Error>(())
+/// ```
+pub fn limits() -> Limits {
+    // SAFETY: these functions take nothing and look at nothing.
+    unsafe {
+        Limits {
+            buses: raw::share_sheet_max_buses(),
+            entries: raw::share_sheet_max_entries(),
+            file_bytes: raw::share_sheet_max_bytes(),
+            text_bytes: raw::share_sheet_max_text(),
+        }
+    }
+}
+
+/// Reads a network file: stores its line table at the front of `table`, and gives the counts.
+///
+/// A network of n buses and m lines takes 2n + 2 + 2m entries; later ones are left as they were.
+/// Refused because of the file with [`FileTooShort`](Refusal::FileTooShort),
+/// [`BusCount`](Refusal::BusCount), [`Need`](Refusal::Need), [`LineCount`](Refusal::LineCount) or
+/// [`FileTooLong`](Refusal::FileTooLong), in file order; then, each over all records before the
+/// next, with [`LineEnds`](Refusal::LineEnds), [`CrowdedBus`](Refusal::CrowdedBus) or
+/// [`RepeatedLine`](Refusal::RepeatedLine); then with [`TableTooShort`](Refusal::TableTooShort). A
+/// refused call leaves the network that `table` held.
+///
+/// ```
+/// use share_sheet::{read, Refusal};
+///
+/// let file = [3, 0, 1, 1, 1, 2, 0, 0, 0, 1, 0, 1, 0, 2, 0];
+/// let mut table = [0; 12];
+/// let counts = read(&file, &mut table)?;
+/// assert_eq!((counts.buses, counts.lines), (3, 2));
+/// // n, the needs, the row starts, and the rows of buses 0, 1 and 2
+/// assert_eq!(table, [3, 1, 1, 1, 0, 1, 3, 4, 1, 0, 2, 1]);
+///
+/// assert_eq!(read(&file, &mut table[..11]), Err(Refusal::TableTooShort));
+/// # Ok::<(), Refusal>(())
+/// ```
+pub fn read(file: &[u8], table: &mut [u16]) -> Result<Counts, Refusal> {
+    let mut counts = Counts { buses: 0, lines: 0 };
+    // SAFETY: slices and references are aligned, valid and never null; what is written is lent
+    // by `&mut`, so that nothing else overlaps it.
+    let number = unsafe {
+        raw::share_sheet_read(
+            file.as_ptr(),
+            file.len(),
+            table.as_mut_ptr(),
+            table.len(),
+            &mut counts.buses,
+            &mut counts.lines,
+        )
+    };
+    refusal::accepted(number)?;
+    Ok(counts)
+}
+
+/// Gives the number of neighbours of a bus.
+///
+/// Refused with [`NoNetwork`](Refusal::NoNetwork), then with [`NoSuchBus`](Refusal::NoSuchBus).
+///
+/// ```
+/// use share_sheet::{degree, Refusal};
+///
+/// let path = [3, 1, 1, 1, 0, 1, 3, 4, 1, 0, 2, 1];
+/// assert_eq!(degree(&path, 1), Ok(2));
+/// assert_eq!(degree(&path, 3), Err(Refusal::NoSuchBus));
+/// assert_eq!(degree(&path[..11], 1), Err(Refusal::NoNetwork));
+/// ```
+pub fn degree(table: &[u16], bus: usize) -> Result<usize, Refusal> {
+    let mut degree = 0;
+    // SAFETY: as in `read`.
+    let number = unsafe { raw::share_sheet_degree(table.as_ptr(), table.len(), bus, &mut degree) };
+    refusal::accepted(number)?;
+    Ok(degree)
+}
+
+/// Gives the neighbours of a bus in ascending order: a part of `table`.
+///
+/// Refused as [`degree`] is. The scope of the library lets Row give the empty part where it is
+/// refused, and Degree tell why; that is `row(table, bus).unwrap_or_default()`.
+///
+/// ```
+/// use share_sheet::{row, Refusal};
+///
+/// let path = [3, 1, 1, 1, 0, 1, 3, 4, 1, 0, 2, 1];
+/// assert_eq!(row(&path, 1), Ok(&path[9..11]));
+/// assert_eq!(row(&path, 1), Ok(&[0, 2][..]));
+/// assert_eq!(row(&path, 3), Err(Refusal::NoSuchBus));
+/// assert_eq!(row(&path, 3).unwrap_or_default(), &[]);
+/// ```
+pub fn row(table: &[u16], bus: usize) -> Result<&[u16], Refusal> {
+    let (mut start, mut length) = (0, 0);
+    // SAFETY: as in `read`; `start` and `length` are two places.
+    let number =
+        unsafe { raw::share_sheet_row(table.as_ptr(), table.len(), bus, &mut start, &mut length) };
+    refusal::accepted(number)?;
+    Ok(&table[start..start + length])
+}
+
+/// Stores the numerators of all buses, bus 0 first, and gives the denominator that they are over.
+///
+/// Numerators behind those of the n buses are left as they were. The n numerators add up to n
+/// times the denominator. Refused with [`NoNetwork`](Refusal::NoNetwork), then with
+/// [`NumeratorsTooShort`](Refusal::NumeratorsTooShort).
+///
+/// ```
+/// use share_sheet::{shares, Refusal};
+///
+/// let path = [3, 1, 1, 1, 0, 1, 3, 4, 1, 0, 2, 1];
+/// let mut numerators = [0; 4];
+/// assert_eq!(shares(&path, &mut numerators), Ok(6));
+/// assert_eq!(numerators, [5, 8, 5, 0]);
+/// assert_eq!(shares(&path, &mut numerators[..2]), Err(Refusal::NumeratorsTooShort));
+/// ```
+pub fn shares(table: &[u16], numerators: &mut [u64]) -> Result<u64, Refusal> {
+    let mut over = 0;
+    // SAFETY: as in `read`.
+    let number = unsafe {
+        raw::share_sheet_shares(
+            table.as_ptr(),
+            table.len(),
+            numerators.as_mut_ptr(),
+            numerators.len(),
+            &mut over,
+        )
+    };
+    refusal::accepted(number)?;
+    Ok(over)
+}
+
+/// Gives the share of one bus: its numerator and the denominator, as [`shares`] gives them.
+///
+/// Refused with [`NoNetwork`](Refusal::NoNetwork), then with [`NoSuchBus`](Refusal::NoSuchBus).
+///
+/// ```
+/// use share_sheet::{cancel, share, Refusal};
+///
+/// let path = [3, 1, 1, 1, 0, 1, 3, 4, 1, 0, 2, 1];
+/// let middle = share(&path, 1)?;
+/// assert_eq!(middle.to_string(), "8/6");
+/// assert_eq!(cancel(middle.numerator, middle.denominator)?.to_string(), "4/3");
+/// assert_eq!(share(&path, 3), Err(Refusal::NoSuchBus));
+/// # Ok::<(), Refusal>(())
+/// ```
+pub fn share(table: &[u16], bus: usize) -> Result<Fraction, Refusal> {
+    let mut share = Fraction {
+        numerator: 0,
+        denominator: 0,
+    };
+    // SAFETY: as in `read`; the fraction's two numbers are two places.
+    let number = unsafe {
+        raw::share_sheet_share(
+            table.as_ptr(),
+            table.len(),
+            bus,
+            &mut share.numerator,
+            &mut share.denominator,
+        )
+    };
+    refusal::accepted(number)?;
+    Ok(share)
+}
+
+/// Gives a fraction in lowest terms.
+///
+/// 0 over anything above 0 is 0/1. Refused with [`NoDenominator`](Refusal::NoDenominator) if the
+/// denominator is 0, whatever the numerator.
+///
+/// ```
+/// use share_sheet::{cancel, Fraction, Refusal};
+///
+/// assert_eq!(cancel(8, 6), Ok(Fraction { numerator: 4, denominator: 3 }));
+/// assert_eq!(cancel(0, 5), Ok(Fraction { numerator: 0, denominator: 1 }));
+/// assert_eq!(cancel(0, 0), Err(Refusal::NoDenominator));
+/// ```
+pub fn cancel(numerator: u64, denominator: u64) -> Result<Fraction, Refusal> {
+    let mut lowest = Fraction {
+        numerator: 0,
+        denominator: 0,
+    };
+    // SAFETY: the fraction's two numbers are two places.
+    let number = unsafe {
+        raw::share_sheet_cancel(
+            numerator,
+            denominator,
+            &mut lowest.numerator,
+            &mut lowest.denominator,
+        )
+    };
+    refusal::accepted(number)?;
+    Ok(lowest)
+}
+
+/// Writes one line of the sheet at the front of `text`, and gives its bytes.
+///
+/// Line 0 is the heading and line i that of bus i - 1; a line ends with a newline. Later bytes of
+/// `text` are left as they were. Refused with [`NoNetwork`](Refusal::NoNetwork), then with
+/// [`NoSuchBus`](Refusal::NoSuchBus) if `line` is above n, then with
+/// [`TextTooShort`](Refusal::TextTooShort).
+///
+/// ```
+/// use share_sheet::{sheet_line, Refusal};
+///
+/// let path = [3, 1, 1, 1, 0, 1, 3, 4, 1, 0, 2, 1];
+/// let mut text = [b'-'; 24];
+/// assert_eq!(sheet_line(&path, 2, &mut text), Ok(12));
+/// assert_eq!(&text, b"1 1 2 8 4/3\n------------");
+/// assert_eq!(sheet_line(&path, 4, &mut text), Err(Refusal::NoSuchBus));
+/// assert_eq!(sheet_line(&path, 0, &mut text[..22]), Err(Refusal::TextTooShort));
+/// ```
+pub fn sheet_line(table: &[u16], line: usize, text: &mut [u8]) -> Result<usize, Refusal> {
+    let mut bytes = 0;
+    // SAFETY: as in `read`.
+    let number = unsafe {
+        raw::share_sheet_line(
+            table.as_ptr(),
+            table.len(),
+            line,
+            text.as_mut_ptr(),
+            text.len(),
+            &mut bytes,
+        )
+    };
+    refusal::accepted(number)?;
+    Ok(bytes)
+}
+
+/// Writes the whole sheet at the front of `text`, lines 0 to n, and gives its bytes.
+///
+/// The bytes are those of [`sheet_line`] for each line, but the table is tested once. Refused with
+/// [`NoNetwork`](Refusal::NoNetwork), then with [`TextTooShort`](Refusal::TextTooShort).
+///
+/// ```
+/// use share_sheet::{whole_sheet, Refusal};
+///
+/// // one bus without lines
+/// let alone = [1, 1, 0, 0];
+/// let mut text = [b'-'; 40];
+/// assert_eq!(whole_sheet(&alone, &mut text), Ok(35));
+/// assert_eq!(&text, b"buses 1 lines 0 over 1\n0 1 0 1 1/1\n-----");
+/// assert_eq!(whole_sheet(&alone, &mut text[..34]), Err(Refusal::TextTooShort));
+/// ```
+pub fn whole_sheet(table: &[u16], text: &mut [u8]) -> Result<usize, Refusal> {
+    let mut bytes = 0;
+    // SAFETY: as in `read`.
+    let number = unsafe {
+        raw::share_sheet_whole(
+            table.as_ptr(),
+            table.len(),
+            text.as_mut_ptr(),
+            text.len(),
+            &mut bytes,
+        )
+    };
+    refusal::accepted(number)?;
+    Ok(bytes)
+}

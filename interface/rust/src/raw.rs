@@ -1,0 +1,251 @@
+//! The functions of share_sheet_c as interface/share_sheet.h declares them, with its rules for
+//! pointers. Nothing tests that the two agree but the tests that call them.
+
+extern "C" {
+    pub fn share_sheet_read(
+        file: *const u8,
+        file_len: usize,
+        table: *mut u16,
+        table_len: usize,
+        buses: *mut usize,
+        lines: *mut usize,
+    ) -> u8;
+
+    pub fn share_sheet_degree(
+        table: *const u16,
+        table_len: usize,
+        bus: usize,
+        degree: *mut usize,
+    ) -> u8;
+
+    pub fn share_sheet_row(
+        table: *const u16,
+        table_len: usize,
+        bus: usize,
+        start: *mut usize,
+        length: *mut usize,
+    ) -> u8;
+
+    pub fn share_sheet_shares(
+        table: *const u16,
+        table_len: usize,
+        numerators: *mut u64,
+        numerators_len: usize,
+        over: *mut u64,
+    ) -> u8;
+
+    pub fn share_sheet_share(
+        table: *const u16,
+        table_len: usize,
+        bus: usize,
+        numerator: *mut u64,
+        over: *mut u64,
+    ) -> u8;
+
+    pub fn share_sheet_cancel(
+        numerator: u64,
+        denominator: u64,
+        top: *mut u64,
+        bottom: *mut u64,
+    ) -> u8;
+
+    pub fn share_sheet_line(
+        table: *const u16,
+        table_len: usize,
+        line: usize,
+        text: *mut u8,
+        text_len: usize,
+        bytes: *mut usize,
+    ) -> u8;
+
+    pub fn share_sheet_whole(
+        table: *const u16,
+        table_len: usize,
+        text: *mut u8,
+        text_len: usize,
+        bytes: *mut usize,
+    ) -> u8;
+
+    pub fn share_sheet_max_buses() -> usize;
+    pub fn share_sheet_max_entries() -> usize;
+    pub fn share_sheet_max_bytes() -> usize;
+    pub fn share_sheet_max_text() -> usize;
+}
+
+/// What is given through single pointers: the safe functions show it of accepted calls only, so it
+/// is tested here that refused ones leave it as it was.
+#[cfg(test)]
+mod tests {
+    use super::*;
+
+    /// Three buses in a row, each with need 1.
+    const PATH: [u8; 15] = [3, 0, 1, 1, 1, 2, 0, 0, 0, 1, 0, 1, 0, 2, 0];
+    const TABLE: [u16; 12] = [3, 1, 1, 1, 0, 1, 3, 4, 1, 0, 2, 1];
+    /// Path's table with a wrong last entry: bus 2 names bus 0, which does not name it.
+    const NONE: [u16; 12] = [3, 1, 1, 1, 0, 1, 3, 4, 1, 0, 2, 0];
+
+    // No call gives these for Path.
+    const A: usize = 0xA5A5_A5A5_A5A5_A5A5;
+    const B: usize = 0x5A5A_5A5A_5A5A_5A5A;
+    const C: u64 = 0xA5A5_5A5A_A5A5_5A5A;
+    const D: u64 = 0x5A5A_A5A5_5A5A_A5A5;
+
+    // SAFETY, of all blocks below: pointers and lengths are those of live slices and of single
+    // numbers, and nothing that is lent for writing is lent twice.
+
+    fn read(file: &[u8], table: &mut [u16]) -> (u8, usize, usize) {
+        let (mut buses, mut lines) = (A, B);
+        let number = unsafe {
+            share_sheet_read(
+                file.as_ptr(),
+                file.len(),
+                table.as_mut_ptr(),
+                table.len(),
+                &mut buses,
+                &mut lines,
+            )
+        };
+        (number, buses, lines)
+    }
+
+    #[test]
+    fn counts_of_read() {
+        let mut table = [7; 12];
+        assert_eq!(read(&PATH, &mut table), (0, 3, 2));
+        assert_eq!(table, TABLE);
+        assert_eq!(read(&PATH[..14], &mut table), (1, A, B));
+        let mut wrong_end = PATH;
+        wrong_end[13] = 3;
+        assert_eq!(read(&wrong_end, &mut table), (6, A, B));
+        let mut repeat = PATH;
+        repeat[13] = 0;
+        assert_eq!(read(&repeat, &mut table), (8, A, B));
+        assert_eq!(read(&PATH, &mut table[..11]), (10, A, B));
+        assert_eq!(table, TABLE);
+    }
+
+    #[test]
+    fn degree_and_row() {
+        let degree = |table: &[u16], bus| {
+            let mut degree = A;
+            let number =
+                unsafe { share_sheet_degree(table.as_ptr(), table.len(), bus, &mut degree) };
+            (number, degree)
+        };
+        let row = |table: &[u16], bus| {
+            let (mut start, mut length) = (A, B);
+            let number = unsafe {
+                share_sheet_row(table.as_ptr(), table.len(), bus, &mut start, &mut length)
+            };
+            (number, start, length)
+        };
+        for (bus, start, length) in [(0, 8, 1), (1, 9, 2), (2, 11, 1)] {
+            assert_eq!(degree(&TABLE, bus), (0, length));
+            assert_eq!(row(&TABLE, bus), (0, start, length));
+        }
+        assert_eq!(degree(&TABLE, 3), (13, A));
+        assert_eq!(degree(&NONE, 0), (11, A));
+        assert_eq!(row(&TABLE, 3), (13, A, B));
+        assert_eq!(row(&NONE, 0), (11, A, B));
+    }
+
+    #[test]
+    fn denominator_of_shares() {
+        let shares = |table: &[u16], numerators: &mut [u64]| {
+            let mut over = C;
+            let number = unsafe {
+                share_sheet_shares(
+                    table.as_ptr(),
+                    table.len(),
+                    numerators.as_mut_ptr(),
+                    numerators.len(),
+                    &mut over,
+                )
+            };
+            (number, over)
+        };
+        let mut numerators = [7; 3];
+        assert_eq!(shares(&TABLE, &mut numerators[..2]), (12, C));
+        assert_eq!(shares(&NONE, &mut numerators), (11, C));
+        assert_eq!(numerators, [7; 3]);
+        assert_eq!(shares(&TABLE, &mut numerators), (0, 6));
+        assert_eq!(numerators, [5, 8, 5]);
+    }
+
+    #[test]
+    fn share_and_denominator() {
+        let share = |table: &[u16], bus| {
+            let (mut numerator, mut over) = (C, D);
+            let number = unsafe {
+                share_sheet_share(table.as_ptr(), table.len(), bus, &mut numerator, &mut over)
+            };
+            (number, numerator, over)
+        };
+        assert_eq!(share(&TABLE, 1), (0, 8, 6));
+        assert_eq!(share(&TABLE, 3), (13, C, D));
+        assert_eq!(share(&NONE, 1), (11, C, D));
+    }
+
+    #[test]
+    fn cancelled_pair() {
+        let cancel = |numerator, denominator| {
+            let (mut top, mut bottom) = (C, D);
+            let number =
+                unsafe { share_sheet_cancel(numerator, denominator, &mut top, &mut bottom) };
+            (number, top, bottom)
+        };
+        assert_eq!(cancel(8, 6), (0, 4, 3));
+        assert_eq!(cancel(0, 5), (0, 0, 1));
+        assert_eq!(cancel(0, 0), (9, C, D));
+        assert_eq!(cancel(8, 0), (9, C, D));
+    }
+
+    #[test]
+    fn bytes_of_a_line() {
+        let line = |table: &[u16], line, text: &mut [u8]| {
+            let mut bytes = A;
+            let number = unsafe {
+                share_sheet_line(
+                    table.as_ptr(),
+                    table.len(),
+                    line,
+                    text.as_mut_ptr(),
+                    text.len(),
+                    &mut bytes,
+                )
+            };
+            (number, bytes)
+        };
+        let mut text = *b"- - - - - - - ";
+        assert_eq!(line(&TABLE, 4, &mut text), (13, A));
+        assert_eq!(line(&TABLE, 2, &mut text[..11]), (14, A));
+        assert_eq!(line(&NONE, 2, &mut text), (11, A));
+        assert_eq!(text, *b"- - - - - - - ");
+        assert_eq!(line(&TABLE, 2, &mut text), (0, 12));
+        assert_eq!(text, *b"1 1 2 8 4/3\n- ");
+    }
+
+    #[test]
+    fn bytes_of_a_whole_sheet() {
+        let whole = |table: &[u16], text: &mut [u8]| {
+            let mut bytes = A;
+            let number = unsafe {
+                share_sheet_whole(
+                    table.as_ptr(),
+                    table.len(),
+                    text.as_mut_ptr(),
+                    text.len(),
+                    &mut bytes,
+                )
+            };
+            (number, bytes)
+        };
+        let mut text = [7; 60];
+        assert_eq!(whole(&TABLE, &mut text[..58]), (14, A));
+        assert_eq!(whole(&NONE, &mut text), (11, A));
+        assert_eq!(text, [7; 60]);
+        assert_eq!(whole(&TABLE, &mut text), (0, 59));
+        assert!(text.starts_with(b"buses 3 lines 2 over 6\n0 1 1 5 5/6\n1 1 2 8 4/3\n"));
+        assert!(text.ends_with(b"2 1 1 5 5/6\n\x07"));
+    }
+}

@@ -1,0 +1,143 @@
+use std::error::Error;
+use std::fmt;
+
+/// Why a call is refused.
+///
+/// A call gives the first cause in the order that stands with it. A refused call has changed
+/// nothing that was lent to it.
+///
+/// ```
+/// use share_sheet::{read, Refusal};
+///
+/// // one bus with need 1, and a file that ends where the line count should stand
+/// let refused = read(&[1, 0, 1], &mut [0; 4]).unwrap_err();
+/// assert_eq!(refused, Refusal::FileTooShort);
+/// assert_eq!(refused.to_string(), "refused 1: the file ends inside a count or a section");
+/// ```
+#[derive(Clone, Copy, Debug, PartialEq, Eq, Hash)]
+#[non_exhaustive]
+#[repr(u8)]
+pub enum Refusal {
+    /// The file ends inside a count or a section.
+    FileTooShort = 1,
+    /// The bus count is 0 or above the limit.
+    BusCount,
+    /// A need is 0 or above the limit.
+    Need,
+    /// The line count is above the limit.
+    LineCount,
+    /// Bytes follow the last record.
+    FileTooLong,
+    /// A record names a bus that the network does not have, or one bus twice.
+    LineEnds,
+    /// A bus stands in more records than it may have lines.
+    CrowdedBus,
+    /// Two records name the same two buses, in either order.
+    RepeatedLine,
+    /// The denominator is 0.
+    NoDenominator,
+    /// Too few entries are lent for the table.
+    TableTooShort,
+    /// The table lent holds no network.
+    NoNetwork,
+    /// Too few entries are lent for the numerators.
+    NumeratorsTooShort,
+    /// The network does not have the bus, or the sheet does not have the line.
+    NoSuchBus,
+    /// Too few bytes are lent for the text.
+    TextTooShort,
+}
+
+impl Refusal {
+    /// The number of the cause, which programs print.
+    ///
+    /// ```
+    /// use share_sheet::{cancel, Refusal};
+    ///
+    /// assert_eq!(cancel(0, 0).map_err(Refusal::number), Err(9));
+    /// ```
+    pub fn number(self) -> u8 {
+        self as u8
+    }
+
+    /// The cause in words.
+    fn words(self) -> &'static str {
+        match self {
+            Refusal::FileTooShort => "the file ends inside a count or a section",
+            Refusal::BusCount => "the bus count is 0 or above the limit",
+            Refusal::Need => "a need is 0 or above the limit",
+            Refusal::LineCount => "the line count is above the limit",
+            Refusal::FileTooLong => "bytes follow the last record",
+            Refusal::LineEnds => {
+                "a record names a bus that the network does not have, or one bus twice"
+            }
+            Refusal::CrowdedBus => "a bus stands in more records than it may have lines",
+            Refusal::RepeatedLine => "two records name the same two buses",
+            Refusal::NoDenominator => "the denominator is 0",
+            Refusal::TableTooShort => "too few entries are lent for the table",
+            Refusal::NoNetwork => "the table lent holds no network",
+            Refusal::NumeratorsTooShort => "too few entries are lent for the numerators",
+            Refusal::NoSuchBus => {
+                "the network does not have the bus, or the sheet does not have the line"
+            }
+            Refusal::TextTooShort => "too few bytes are lent for the text",
+        }
+    }
+}
+
+impl fmt::Display for Refusal {
+    fn fmt(&self, f: &mut fmt::Formatter<'_>) -> fmt::Result {
+        write!(f, "refused {}: {}", self.number(), self.words())
+    }
+}
+
+impl Error for Refusal {}
+
+/// What a number that the library returned says: 0 that the call was accepted.
+pub(crate) fn accepted(number: u8) -> Result<(), Refusal> {
+    Err(match number {
+        0 => return Ok(()),
+        1 => Refusal::FileTooShort,
+        2 => Refusal::BusCount,
+        3 => Refusal::Need,
+        4 => Refusal::LineCount,
+        5 => Refusal::FileTooLong,
+        6 => Refusal::LineEnds,
+        7 => Refusal::CrowdedBus,
+        8 => Refusal::RepeatedLine,
+        9 => Refusal::NoDenominator,
+        10 => Refusal::TableTooShort,
+        11 => Refusal::NoNetwork,
+        12 => Refusal::NumeratorsTooShort,
+        13 => Refusal::NoSuchBus,
+        14 => Refusal::TextTooShort,
+        _ => panic!("share_sheet_c returned {number}, which stands for no refusal"),
+    })
+}
+
+#[cfg(test)]
+mod tests {
+    use super::*;
+    use std::collections::HashSet;
+
+    #[test]
+    fn every_number_has_a_refusal_and_words_of_its_own() {
+        assert_eq!(accepted(0), Ok(()));
+        let mut told = HashSet::new();
+        for number in 1..=14 {
+            let refused = accepted(number).unwrap_err();
+            assert_eq!(refused.number(), number);
+            assert!(told.insert(refused.words()), "{refused}");
+            assert_eq!(
+                refused.to_string(),
+                format!("refused {number}: {}", refused.words())
+            );
+        }
+    }
+
+    #[test]
+    #[should_panic(expected = "returned 15")]
+    fn a_number_that_nobody_knows_is_no_refusal() {
+        let _ = accepted(15);
+    }
+}

@@ -1,0 +1,271 @@
+//! The bench cases of the scope, starred ones included, through the boundary.
+
+use share_sheet::{
+    cancel, degree, limits, read, row, share, shares, sheet_line, whole_sheet, Counts, Fraction,
+    Limits, Refusal,
+};
+
+/// Three buses in a row, each with need 1.
+const PATH: [u8; 15] = [3, 0, 1, 1, 1, 2, 0, 0, 0, 1, 0, 1, 0, 2, 0];
+const PATH_TABLE: [u16; 12] = [3, 1, 1, 1, 0, 1, 3, 4, 1, 0, 2, 1];
+
+/// A network file.
+fn file(needs: &[u8], lines: &[(u16, u16)]) -> Vec<u8> {
+    let mut file = (needs.len() as u16).to_le_bytes().to_vec();
+    file.extend(needs);
+    file.extend((lines.len() as u16).to_le_bytes());
+    file.extend(
+        lines
+            .iter()
+            .flat_map(|&(a, b)| [a.to_le_bytes(), b.to_le_bytes()].concat()),
+    );
+    file
+}
+
+/// Bus 0 and all others joined to it, with need 1.
+fn star(buses: u16) -> Vec<u8> {
+    let lines: Vec<_> = (1..buses).map(|leaf| (0, leaf)).collect();
+    file(&vec![1; buses.into()], &lines)
+}
+
+/// The table of a file that is accepted, with no entry behind it.
+fn table(file: &[u8]) -> Vec<u16> {
+    let mut table = vec![0; limits().entries];
+    let Counts { buses, lines } = read(file, &mut table).unwrap();
+    table.truncate(2 * buses + 2 + 2 * lines);
+    table
+}
+
+/// Tests that a file's shares are `numerators` over `over`: of all buses in one call, and bus by
+/// bus. Entries behind the numerators stay.
+fn scores(file: &[u8], over: u64, numerators: &[u64]) {
+    let table = table(file);
+    let mut lent = vec![7; numerators.len() + 2];
+    assert_eq!(shares(&table, &mut lent), Ok(over));
+    assert_eq!(lent, [numerators, &[7, 7]].concat());
+    for (bus, &numerator) in numerators.iter().enumerate() {
+        assert_eq!(
+            share(&table, bus),
+            Ok(Fraction {
+                numerator,
+                denominator: over
+            })
+        );
+    }
+    assert_eq!(share(&table, numerators.len()), Err(Refusal::NoSuchBus));
+    let short = numerators.len() - 1;
+    assert_eq!(
+        shares(&table, &mut lent[..short]),
+        Err(Refusal::NumeratorsTooShort)
+    );
+    assert_eq!(lent, [numerators, &[7, 7]].concat());
+}
+
+/// Tests that a file is refused, and that what the slice held stays: Path's network, or entries
+/// that hold none.
+fn refuses(file: &[u8], number: u8) {
+    let mut held = [&PATH_TABLE[..], &[7; 20]].concat();
+    let before = held.clone();
+    assert_eq!(read(file, &mut held).map_err(Refusal::number), Err(number));
+    assert_eq!(held, before);
+    let mut marks = vec![0xA5A5; limits().entries];
+    assert_eq!(read(file, &mut marks).map_err(Refusal::number), Err(number));
+    assert!(marks.iter().all(|&mark| mark == 0xA5A5));
+    assert_eq!(read(file, &mut []).map_err(Refusal::number), Err(number));
+}
+
+#[test]
+fn one_bus() {
+    scores(&file(&[1], &[]), 1, &[1]);
+    scores(&file(&[24], &[]), 1, &[1]);
+}
+
+#[test]
+fn two_buses() {
+    scores(&file(&[1, 1], &[(0, 1)]), 2, &[2, 2]);
+}
+
+#[test]
+fn path() {
+    let lines = [(0, 1), (1, 2)];
+    assert_eq!(file(&[1, 1, 1], &lines), PATH);
+    scores(&PATH, 6, &[5, 8, 5]);
+    scores(&file(&[1, 2, 1], &lines), 6, &[4, 10, 4]);
+    scores(&file(&[1, 3, 1], &lines), 6, &[3, 12, 3]);
+}
+
+#[test]
+fn triangle() {
+    let lines = [(0, 1), (0, 2), (1, 2)];
+    scores(&file(&[1, 1, 1], &lines), 6, &[6, 6, 6]);
+    scores(&file(&[2, 2, 2], &lines), 6, &[6, 6, 6]);
+}
+
+#[test]
+fn cancelled() {
+    assert_eq!(
+        cancel(8, 6),
+        Ok(Fraction {
+            numerator: 4,
+            denominator: 3
+        })
+    );
+    assert_eq!(
+        cancel(0, 5),
+        Ok(Fraction {
+            numerator: 0,
+            denominator: 1
+        })
+    );
+    assert_eq!(cancel(0, 0), Err(Refusal::NoDenominator));
+    assert_eq!(cancel(8, 0), Err(Refusal::NoDenominator));
+}
+
+#[test]
+fn stars() {
+    let mut numerators = vec![2_900_207_310; 24];
+    numerators[0] = 61_796_724_990;
+    let over = 5_354_228_880;
+    scores(&star(24), over, &numerators);
+    assert_eq!(cancel(numerators[0], over).unwrap().to_string(), "277/24");
+    assert_eq!(cancel(numerators[1], over).unwrap().to_string(), "13/24");
+    refuses(&star(25), 7);
+}
+
+#[test]
+fn counts() {
+    let most = table(&file(&[1; 512], &[]));
+    assert_eq!(degree(&most, 511), Ok(0));
+    scores(&file(&[1; 512], &[]), 1, &[1; 512]);
+    refuses(&[1, 2], 2); // 513
+    refuses(&[0, 0], 2);
+    refuses(&[1, 0, 1, 1, 23], 4); // 5,889 lines
+    refuses(&[1, 0, 0], 3);
+    refuses(&[1, 0, 25], 3);
+}
+
+#[test]
+fn short_and_long_files() {
+    refuses(&[], 1);
+    for length in 0..PATH.len() {
+        refuses(&PATH[..length], 1);
+    }
+    refuses(&[&PATH[..], &[0]].concat(), 5);
+}
+
+#[test]
+fn records() {
+    refuses(&file(&[1; 3], &[(0, 1), (1, 1)]), 6);
+    refuses(&file(&[1; 3], &[(0, 1), (1, 3)]), 6);
+    refuses(&file(&[1; 3], &[(0, 1), (1, 0)]), 8);
+    // a repeat early and a wrong end late
+    refuses(&file(&[1; 3], &[(0, 1), (1, 0), (1, 3)]), 6);
+    // one line in 24 records
+    refuses(&file(&[1; 3], &[(0, 1); 24]), 7);
+}
+
+#[test]
+fn lent_tables() {
+    let mut lent = [7; 14];
+    assert_eq!(read(&PATH, &mut lent[..11]), Err(Refusal::TableTooShort));
+    assert_eq!(lent, [7; 14]);
+    assert_eq!(
+        read(&PATH, &mut lent[..12]),
+        Ok(Counts { buses: 3, lines: 2 })
+    );
+    assert_eq!(lent[..12], PATH_TABLE);
+    assert_eq!(lent[12..], [7, 7]);
+    // a bad record is told, and not that the slice is too short for it
+    refuses(&file(&[1; 3], &[(0, 1), (1, 3)]), 6);
+}
+
+#[test]
+fn no_network() {
+    let mut numerators = [7; 3];
+    let mut text = [7; 80];
+    for table in [&[][..], &PATH_TABLE[..11], &[0; 12]] {
+        assert_eq!(degree(table, 0), Err(Refusal::NoNetwork));
+        assert_eq!(row(table, 0), Err(Refusal::NoNetwork));
+        assert_eq!(shares(table, &mut numerators), Err(Refusal::NoNetwork));
+        assert_eq!(shares(table, &mut []), Err(Refusal::NoNetwork));
+        assert_eq!(share(table, 0), Err(Refusal::NoNetwork));
+        assert_eq!(sheet_line(table, 0, &mut text), Err(Refusal::NoNetwork));
+        assert_eq!(sheet_line(table, 9, &mut []), Err(Refusal::NoNetwork));
+        assert_eq!(whole_sheet(table, &mut text), Err(Refusal::NoNetwork));
+        assert_eq!(whole_sheet(table, &mut []), Err(Refusal::NoNetwork));
+    }
+    assert_eq!(numerators, [7; 3]);
+    assert_eq!(text, [7; 80]);
+}
+
+#[test]
+fn rows() {
+    for (bus, neighbours) in [&[1][..], &[0, 2], &[1]].into_iter().enumerate() {
+        assert_eq!(row(&PATH_TABLE, bus), Ok(neighbours));
+        assert_eq!(degree(&PATH_TABLE, bus), Ok(neighbours.len()));
+    }
+    for bus in [3, 65536, usize::MAX] {
+        assert_eq!(row(&PATH_TABLE, bus), Err(Refusal::NoSuchBus));
+        assert_eq!(degree(&PATH_TABLE, bus), Err(Refusal::NoSuchBus));
+    }
+}
+
+#[test]
+fn sheet() {
+    let sheet = "buses 3 lines 2 over 6\n0 1 1 5 5/6\n1 1 2 8 4/3\n2 1 1 5 5/6\n";
+    for (line, said) in sheet.split_inclusive('\n').enumerate() {
+        let mut text = [7; 30];
+        assert_eq!(sheet_line(&PATH_TABLE, line, &mut text), Ok(said.len()));
+        assert!(text.starts_with(said.as_bytes()));
+        assert!(text[said.len()..].iter().all(|&byte| byte == 7));
+        let mut short = vec![7; said.len() - 1];
+        assert_eq!(
+            sheet_line(&PATH_TABLE, line, &mut short),
+            Err(Refusal::TextTooShort)
+        );
+        assert!(short.iter().all(|&byte| byte == 7));
+    }
+    assert_eq!(sheet_line(&PATH_TABLE, 4, &mut []), Err(Refusal::NoSuchBus));
+
+    let mut text = [7; 70];
+    assert_eq!(
+        whole_sheet(&PATH_TABLE, &mut text[..58]),
+        Err(Refusal::TextTooShort)
+    );
+    assert_eq!(text, [7; 70]);
+    assert_eq!(whole_sheet(&PATH_TABLE, &mut text), Ok(59));
+    assert_eq!(&text[..59], sheet.as_bytes());
+    assert_eq!(text[59..], [7; 11]);
+}
+
+#[test]
+fn lengths_that_are_enough() {
+    let most = Limits {
+        buses: 512,
+        entries: 12_802,
+        file_bytes: 24_068,
+        text_bytes: 64_638,
+    };
+    assert_eq!(limits(), most);
+    // the largest file: each bus joined to the 11 nearest on either side and to the one across
+    let near = (0..512).flat_map(|bus| (1..=11).map(move |step| (bus, (bus + step) % 512)));
+    let lines: Vec<_> = near.chain((0..256).map(|bus| (bus, bus + 256))).collect();
+    let largest = file(&[1; 512], &lines);
+    assert_eq!(largest.len(), most.file_bytes);
+    let mut table = vec![0; most.entries];
+    assert_eq!(
+        read(&largest, &mut table),
+        Ok(Counts {
+            buses: 512,
+            lines: 5_888
+        })
+    );
+    assert_eq!(
+        read(&largest, &mut table[..12_801]),
+        Err(Refusal::TableTooShort)
+    );
+    scores(&largest, 5_354_228_880, &[5_354_228_880; 512]);
+    let mut text = vec![0; most.text_bytes];
+    assert!(whole_sheet(&table, &mut text).is_ok());
+    refuses(&[&largest[..], &[0]].concat(), 5);
+}

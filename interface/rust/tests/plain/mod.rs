@@ -1,0 +1,274 @@
+//! A second reading of the scope in plain safe Rust, which shares nothing with the library. Tests
+//! compare the library with it, and the benchmark takes it for the measure. Refusals are their
+//! numbers.
+#![allow(dead_code)] // each program that has this module uses a part of it
+
+// The scope's limits. They stand here a second time, so that a wrong limit of the library is seen.
+const MOST_BUSES: usize = 512;
+const MOST_LINES_AT_BUS: usize = 23;
+const MOST_NEED: u16 = 24;
+const MOST_LINES: usize = MOST_BUSES * MOST_LINES_AT_BUS / 2;
+
+/// Reads a network file into `table`; gives the counts of buses and lines.
+pub fn read(file: &[u8], table: &mut [u16]) -> Result<(usize, usize), u8> {
+    let mut rest = file;
+    let n = number(&mut rest)? as usize;
+    if n == 0 || n > MOST_BUSES {
+        return Err(2);
+    }
+    let needs = bytes(&mut rest, n)?;
+    if needs.iter().any(|&need| !is_need(need.into())) {
+        return Err(3);
+    }
+    let m = number(&mut rest)? as usize;
+    if m > MOST_LINES {
+        return Err(4);
+    }
+    let records = bytes(&mut rest, 4 * m)?;
+    if !rest.is_empty() {
+        return Err(5);
+    }
+
+    let mut lines = Vec::with_capacity(m);
+    for record in records.chunks_exact(4) {
+        let a = u16::from_le_bytes([record[0], record[1]]);
+        let b = u16::from_le_bytes([record[2], record[3]]);
+        if a as usize >= n || b as usize >= n || a == b {
+            return Err(6);
+        }
+        lines.push((a, b));
+    }
+    let mut rows = vec![Vec::new(); n];
+    for &(a, b) in &lines {
+        rows[a as usize].push(b);
+        rows[b as usize].push(a);
+    }
+    if rows.iter().any(|row| row.len() > MOST_LINES_AT_BUS) {
+        return Err(7);
+    }
+    for row in &mut rows {
+        row.sort_unstable();
+        if row.windows(2).any(|pair| pair[0] == pair[1]) {
+            return Err(8);
+        }
+    }
+
+    if table.len() < 2 * n + 2 + 2 * m {
+        return Err(10);
+    }
+    table[0] = n as u16;
+    for (entry, &need) in table[1..].iter_mut().zip(needs) {
+        *entry = need.into();
+    }
+    let (starts, links) = table[1 + n..].split_at_mut(n + 1);
+    let mut start = 0;
+    for (bus, row) in rows.iter().enumerate() {
+        starts[bus] = start as u16;
+        links[start..start + row.len()].copy_from_slice(row);
+        start += row.len();
+    }
+    starts[n] = start as u16;
+    Ok((n, m))
+}
+
+/// Takes a number of two bytes from the front.
+fn number(rest: &mut &[u8]) -> Result<u16, u8> {
+    let pair = bytes(rest, 2)?;
+    Ok(u16::from_le_bytes([pair[0], pair[1]]))
+}
+
+/// Takes so many bytes from the front.
+fn bytes<'a>(rest: &mut &'a [u8], count: usize) -> Result<&'a [u8], u8> {
+    if rest.len() < count {
+        return Err(1);
+    }
+    let (front, back) = rest.split_at(count);
+    *rest = back;
+    Ok(front)
+}
+
+fn is_need(need: u16) -> bool {
+    (1..=MOST_NEED).contains(&need)
+}
+
+/// The sections of a table that holds a network.
+struct Network<'a> {
+    n: usize,
+    needs: &'a [u16],
+    starts: &'a [u16],
+    links: &'a [u16],
+}
+
+impl<'a> Network<'a> {
+    /// The network that a table holds, or refusal 11.
+    fn of(table: &'a [u16]) -> Result<Self, u8> {
+        Self::sections(table).filter(Self::is_sound).ok_or(11)
+    }
+
+    /// Divides a table into its sections, if it is long enough for them and its starts never fall.
+    fn sections(table: &'a [u16]) -> Option<Self> {
+        let n = *table.first()? as usize;
+        if n == 0 || n > MOST_BUSES {
+            return None;
+        }
+        let needs = table.get(1..1 + n)?;
+        let starts = table.get(1 + n..2 + 2 * n)?;
+        if starts[0] != 0 || starts.windows(2).any(|pair| pair[0] > pair[1]) {
+            return None;
+        }
+        let links = table.get(2 + 2 * n..2 + 2 * n + starts[n] as usize)?;
+        Some(Network { n, needs, starts, links })
+    }
+
+    fn is_sound(&self) -> bool {
+        self.needs.iter().all(|&need| is_need(need))
+            && (0..self.n).all(|bus| {
+                let row = self.row(bus);
+                row.len() <= MOST_LINES_AT_BUS
+                    && row.windows(2).all(|pair| pair[0] < pair[1])
+                    && row.iter().all(|&other| (other as usize) < self.n && other as usize != bus)
+            })
+            && (0..self.n).all(|bus| {
+                let is_named_by = |&other: &u16| {
+                    self.row(other as usize).binary_search(&(bus as u16)).is_ok()
+                };
+                self.row(bus).iter().all(is_named_by)
+            })
+    }
+
+    fn row(&self, bus: usize) -> &'a [u16] {
+        &self.links[self.starts[bus] as usize..self.starts[bus + 1] as usize]
+    }
+
+    /// The need and the degree of a bus.
+    fn need_and_degree(&self, bus: usize) -> (u64, u64) {
+        (self.needs[bus].into(), self.row(bus).len() as u64)
+    }
+
+    fn denominator(&self) -> u64 {
+        let largest = (0..self.n).map(|bus| self.row(bus).len() as u64).max().unwrap_or(0);
+        (1..=largest + 1).fold(1, |l, number| l / divisor(l, number) * number)
+    }
+
+    /// What a bus gets for being seen itself, times l.
+    fn own_term(&self, bus: usize, l: u64) -> u64 {
+        let (k, d) = self.need_and_degree(bus);
+        if k <= d {
+            k * l / (d + 1)
+        } else {
+            l
+        }
+    }
+
+    /// What each neighbour of a bus gets for seeing it, times l.
+    fn neighbour_term(&self, bus: usize, l: u64) -> u64 {
+        let (k, d) = self.need_and_degree(bus);
+        if k <= d {
+            (d + 1 - k) * l / (d * (d + 1))
+        } else {
+            0
+        }
+    }
+
+    fn numerator(&self, bus: usize, l: u64) -> u64 {
+        let terms = self.row(bus).iter().map(|&other| self.neighbour_term(other.into(), l));
+        self.own_term(bus, l) + terms.sum::<u64>()
+    }
+
+    /// All numerators, with each neighbour term found once.
+    fn numerators(&self, l: u64) -> Vec<u64> {
+        let terms: Vec<u64> = (0..self.n).map(|bus| self.neighbour_term(bus, l)).collect();
+        let sum = |bus| self.row(bus).iter().map(|&other| terms[other as usize]).sum::<u64>();
+        (0..self.n).map(|bus| self.own_term(bus, l) + sum(bus)).collect()
+    }
+
+    fn heading(&self, l: u64) -> String {
+        format!("buses {} lines {} over {l}\n", self.n, self.links.len() / 2)
+    }
+
+    fn line(&self, bus: usize, numerator: u64, l: u64) -> String {
+        let (need, degree) = self.need_and_degree(bus);
+        let by = divisor(numerator, l);
+        format!("{bus} {need} {degree} {numerator} {}/{}\n", numerator / by, l / by)
+    }
+}
+
+/// The greatest common divisor.
+fn divisor(mut a: u64, mut b: u64) -> u64 {
+    while b != 0 {
+        (a, b) = (b, a % b);
+    }
+    a
+}
+
+/// The degree of a bus.
+pub fn degree(table: &[u16], bus: usize) -> Result<usize, u8> {
+    Ok(row(table, bus)?.len())
+}
+
+/// The part of the table that has the neighbours of a bus.
+pub fn row(table: &[u16], bus: usize) -> Result<&[u16], u8> {
+    let network = Network::of(table)?;
+    if bus >= network.n {
+        return Err(13);
+    }
+    Ok(network.row(bus))
+}
+
+/// Stores the numerators of all buses; gives the common denominator.
+pub fn shares(table: &[u16], numerators: &mut [u64]) -> Result<u64, u8> {
+    let network = Network::of(table)?;
+    let front = numerators.get_mut(..network.n).ok_or(12)?;
+    let l = network.denominator();
+    front.copy_from_slice(&network.numerators(l));
+    Ok(l)
+}
+
+/// The numerator of one bus, and the common denominator.
+pub fn share(table: &[u16], bus: usize) -> Result<(u64, u64), u8> {
+    let network = Network::of(table)?;
+    if bus >= network.n {
+        return Err(13);
+    }
+    let l = network.denominator();
+    Ok((network.numerator(bus, l), l))
+}
+
+/// A fraction in lowest terms.
+pub fn cancel(numerator: u64, denominator: u64) -> Result<(u64, u64), u8> {
+    if denominator == 0 {
+        return Err(9);
+    }
+    let by = divisor(numerator, denominator);
+    Ok((numerator / by, denominator / by))
+}
+
+/// Writes the heading (line 0) or the line of bus `line` - 1; gives its bytes.
+pub fn sheet_line(table: &[u16], line: usize, text: &mut [u8]) -> Result<usize, u8> {
+    let network = Network::of(table)?;
+    if line > network.n {
+        return Err(13);
+    }
+    let l = network.denominator();
+    let said = match line.checked_sub(1) {
+        None => network.heading(l),
+        Some(bus) => network.line(bus, network.numerator(bus, l), l),
+    };
+    write(&said, text)
+}
+
+/// Writes all lines; gives their bytes.
+pub fn whole_sheet(table: &[u16], text: &mut [u8]) -> Result<usize, u8> {
+    let network = Network::of(table)?;
+    let l = network.denominator();
+    let mut said = network.heading(l);
+    for (bus, &numerator) in network.numerators(l).iter().enumerate() {
+        said += &network.line(bus, numerator, l);
+    }
+    write(&said, text)
+}
+
+fn write(said: &str, text: &mut [u8]) -> Result<usize, u8> {
+    text.get_mut(..said.len()).ok_or(14)?.copy_from_slice(said.as_bytes());
+    Ok(said.len())
+}
