@@ -27,10 +27,7 @@ fn main() {
     }
 
     let changed = newest_source(&crates, &list).unwrap_or_else(|why| {
-        fail(&format!(
-            "cannot look at the sources in {}: {why}",
-            home.display()
-        ));
+        fail(&format!("cannot look at the sources in {}: {why}", home.display()));
     });
     let built = fs::metadata(&archive).and_then(|found| found.modified());
     if built.map_or(true, |built| built < changed) {
@@ -53,10 +50,7 @@ fn newest_source(crates: &Path, list: &Path) -> io::Result<SystemTime> {
             let path = entry?.path();
             if path.is_dir() {
                 folders.push(path);
-            } else if path
-                .extension()
-                .is_some_and(|end| end == "rt" || end == "antt")
-            {
+            } else if path.extension().is_some_and(|end| end == "rt" || end == "antt") {
                 newest = newest.max(fs::metadata(&path)?.modified()?);
             }
         }
@@ -67,9 +61,7 @@ fn newest_source(crates: &Path, list: &Path) -> io::Result<SystemTime> {
 /// Proves the library and writes its archive. What rt says is shown only if it fails.
 fn build(home: &Path, archive: &Path) {
     let mut rt = Command::new("rt");
-    rt.args(["staticlib", "share_sheet_c"])
-        .current_dir(home)
-        .stdin(Stdio::null());
+    rt.args(["staticlib", "share_sheet_c"]).current_dir(home).stdin(Stdio::null());
     let said = rt.output().unwrap_or_else(|why| match why.kind() {
         io::ErrorKind::NotFound => fail(&format!(
             "{} is missing or older than its sources, and Rattle's command 'rt', which builds it, \

@@ -252,10 +252,7 @@ pub fn shares(table: &[u16], numerators: &mut [u64]) -> Result<u64, Refusal> {
 /// # Ok::<(), Refusal>(())
 /// ```
 pub fn share(table: &[u16], bus: usize) -> Result<Fraction, Refusal> {
-    let mut share = Fraction {
-        numerator: 0,
-        denominator: 0,
-    };
+    let mut share = Fraction { numerator: 0, denominator: 0 };
     // SAFETY: as in `read`; the fraction's two numbers are two places.
     let number = unsafe {
         raw::share_sheet_share(
@@ -283,10 +280,7 @@ pub fn share(table: &[u16], bus: usize) -> Result<Fraction, Refusal> {
 /// assert_eq!(cancel(0, 0), Err(Refusal::NoDenominator));
 /// ```
 pub fn cancel(numerator: u64, denominator: u64) -> Result<Fraction, Refusal> {
-    let mut lowest = Fraction {
-        numerator: 0,
-        denominator: 0,
-    };
+    let mut lowest = Fraction { numerator: 0, denominator: 0 };
     // SAFETY: the fraction's two numbers are two places.
     let number = unsafe {
         raw::share_sheet_cancel(

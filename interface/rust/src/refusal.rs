@@ -128,10 +128,7 @@ mod tests {
             let refused = accepted(number).unwrap_err();
             assert_eq!(refused.number(), number);
             assert!(told.insert(refused.words()), "{refused}");
-            assert_eq!(
-                refused.to_string(),
-                format!("refused {number}: {}", refused.words())
-            );
+            assert_eq!(refused.to_string(), format!("refused {number}: {}", refused.words()));
         }
     }
 

@@ -14,11 +14,7 @@ fn file(needs: &[u8], lines: &[(u16, u16)]) -> Vec<u8> {
     let mut file = (needs.len() as u16).to_le_bytes().to_vec();
     file.extend(needs);
     file.extend((lines.len() as u16).to_le_bytes());
-    file.extend(
-        lines
-            .iter()
-            .flat_map(|&(a, b)| [a.to_le_bytes(), b.to_le_bytes()].concat()),
-    );
+    file.extend(lines.iter().flat_map(|&(a, b)| [a.to_le_bytes(), b.to_le_bytes()].concat()));
     file
 }
 
@@ -44,20 +40,11 @@ fn scores(file: &[u8], over: u64, numerators: &[u64]) {
     assert_eq!(shares(&table, &mut lent), Ok(over));
     assert_eq!(lent, [numerators, &[7, 7]].concat());
     for (bus, &numerator) in numerators.iter().enumerate() {
-        assert_eq!(
-            share(&table, bus),
-            Ok(Fraction {
-                numerator,
-                denominator: over
-            })
-        );
+        assert_eq!(share(&table, bus), Ok(Fraction { numerator, denominator: over }));
     }
     assert_eq!(share(&table, numerators.len()), Err(Refusal::NoSuchBus));
     let short = numerators.len() - 1;
-    assert_eq!(
-        shares(&table, &mut lent[..short]),
-        Err(Refusal::NumeratorsTooShort)
-    );
+    assert_eq!(shares(&table, &mut lent[..short]), Err(Refusal::NumeratorsTooShort));
     assert_eq!(lent, [numerators, &[7, 7]].concat());
 }
 
@@ -103,20 +90,8 @@ fn triangle() {
 
 #[test]
 fn cancelled() {
-    assert_eq!(
-        cancel(8, 6),
-        Ok(Fraction {
-            numerator: 4,
-            denominator: 3
-        })
-    );
-    assert_eq!(
-        cancel(0, 5),
-        Ok(Fraction {
-            numerator: 0,
-            denominator: 1
-        })
-    );
+    assert_eq!(cancel(8, 6), Ok(Fraction { numerator: 4, denominator: 3 }));
+    assert_eq!(cancel(0, 5), Ok(Fraction { numerator: 0, denominator: 1 }));
     assert_eq!(cancel(0, 0), Err(Refusal::NoDenominator));
     assert_eq!(cancel(8, 0), Err(Refusal::NoDenominator));
 }
@@ -169,10 +144,7 @@ fn lent_tables() {
     let mut lent = [7; 14];
     assert_eq!(read(&PATH, &mut lent[..11]), Err(Refusal::TableTooShort));
     assert_eq!(lent, [7; 14]);
-    assert_eq!(
-        read(&PATH, &mut lent[..12]),
-        Ok(Counts { buses: 3, lines: 2 })
-    );
+    assert_eq!(read(&PATH, &mut lent[..12]), Ok(Counts { buses: 3, lines: 2 }));
     assert_eq!(lent[..12], PATH_TABLE);
     assert_eq!(lent[12..], [7, 7]);
     // a bad record is told, and not that the slice is too short for it
@@ -219,19 +191,13 @@ fn sheet() {
         assert!(text.starts_with(said.as_bytes()));
         assert!(text[said.len()..].iter().all(|&byte| byte == 7));
         let mut short = vec![7; said.len() - 1];
-        assert_eq!(
-            sheet_line(&PATH_TABLE, line, &mut short),
-            Err(Refusal::TextTooShort)
-        );
+        assert_eq!(sheet_line(&PATH_TABLE, line, &mut short), Err(Refusal::TextTooShort));
         assert!(short.iter().all(|&byte| byte == 7));
     }
     assert_eq!(sheet_line(&PATH_TABLE, 4, &mut []), Err(Refusal::NoSuchBus));
 
     let mut text = [7; 70];
-    assert_eq!(
-        whole_sheet(&PATH_TABLE, &mut text[..58]),
-        Err(Refusal::TextTooShort)
-    );
+    assert_eq!(whole_sheet(&PATH_TABLE, &mut text[..58]), Err(Refusal::TextTooShort));
     assert_eq!(text, [7; 70]);
     assert_eq!(whole_sheet(&PATH_TABLE, &mut text), Ok(59));
     assert_eq!(&text[..59], sheet.as_bytes());
@@ -240,12 +206,7 @@ fn sheet() {
 
 #[test]
 fn lengths_that_are_enough() {
-    let most = Limits {
-        buses: 512,
-        entries: 12_802,
-        file_bytes: 24_068,
-        text_bytes: 64_638,
-    };
+    let most = Limits { buses: 512, entries: 12_802, file_bytes: 24_068, text_bytes: 64_638 };
     assert_eq!(limits(), most);
     // the largest file: each bus joined to the 11 nearest on either side and to the one across
     let near = (0..512).flat_map(|bus| (1..=11).map(move |step| (bus, (bus + step) % 512)));
@@ -253,17 +214,8 @@ fn lengths_that_are_enough() {
     let largest = file(&[1; 512], &lines);
     assert_eq!(largest.len(), most.file_bytes);
     let mut table = vec![0; most.entries];
-    assert_eq!(
-        read(&largest, &mut table),
-        Ok(Counts {
-            buses: 512,
-            lines: 5_888
-        })
-    );
-    assert_eq!(
-        read(&largest, &mut table[..12_801]),
-        Err(Refusal::TableTooShort)
-    );
+    assert_eq!(read(&largest, &mut table), Ok(Counts { buses: 512, lines: 5_888 }));
+    assert_eq!(read(&largest, &mut table[..12_801]), Err(Refusal::TableTooShort));
     scores(&largest, 5_354_228_880, &[5_354_228_880; 512]);
     let mut text = vec![0; most.text_bytes];
     assert!(whole_sheet(&table, &mut text).is_ok());

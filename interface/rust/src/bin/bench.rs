@@ -1,1 +1,232 @@
-fn main() {}
+//! Measures the library against the plain reading that the tests compare it with, and prints the
+//! times as Markdown: `cargo run --release --bin bench`.
+
+#[path = "../../tests/plain/mod.rs"]
+mod plain;
+
+use share_sheet::limits;
+use std::hint::black_box;
+use std::time::{Duration, Instant};
+
+/// How long one call is measured, library and plain reading together.
+const BUDGET: Duration = Duration::from_millis(700);
+/// A timed piece is about this long, unless a single call takes longer.
+const PIECE: Duration = Duration::from_micros(50);
+
+/// The best times of two pieces of work, each in nanoseconds. Their runs take turns.
+fn race(mut library: impl FnMut(), mut plain: impl FnMut()) -> [f64; 2] {
+    let start = Instant::now();
+    let works: [&mut dyn FnMut(); 2] = [&mut library, &mut plain];
+    let repeats = works.map(repeats);
+    let mut best = [f64::INFINITY; 2];
+    let mut rounds = 0;
+    while rounds < 10 || start.elapsed() < BUDGET {
+        best[0] = best[0].min(time(repeats[0], &mut library));
+        best[1] = best[1].min(time(repeats[1], &mut plain));
+        rounds += 1;
+    }
+    best
+}
+
+/// How often work is repeated to fill a piece.
+fn repeats(work: &mut dyn FnMut()) -> u32 {
+    let mut repeats = 1;
+    loop {
+        let start = Instant::now();
+        for _ in 0..repeats {
+            work();
+        }
+        if start.elapsed() >= PIECE {
+            return repeats;
+        }
+        repeats *= 2;
+    }
+}
+
+/// The mean time of work that is repeated, in nanoseconds.
+fn time(repeats: u32, mut work: impl FnMut()) -> f64 {
+    let start = Instant::now();
+    for _ in 0..repeats {
+        work();
+    }
+    start.elapsed().as_nanos() as f64 / f64::from(repeats)
+}
+
+struct Network {
+    name: String,
+    buses: u16,
+    /// Ascending, and the lower bus of a line first.
+    lines: Vec<(u16, u16)>,
+}
+
+impl Network {
+    fn star(buses: u16) -> Self {
+        let lines = (1..buses).map(|leaf| (0, leaf)).collect();
+        Network { name: format!("star of {buses} buses"), buses, lines }
+    }
+
+    /// Each bus is joined to those that are so many steps away round a ring.
+    fn ring(name: &str, buses: u16, steps: impl Iterator<Item = u16> + Clone) -> Self {
+        let mut lines: Vec<_> = (0..buses)
+            .flat_map(|a| steps.clone().map(move |step| (a, (a + step) % buses)))
+            .map(|(a, b)| (a.min(b), a.max(b)))
+            .collect();
+        lines.sort_unstable();
+        lines.dedup();
+        Network { name: format!("{name} of {buses} buses"), buses, lines }
+    }
+
+    fn sparse(buses: u16) -> Self {
+        Self::ring("ring", buses, 1..2)
+    }
+
+    /// 23 lines at each bus, or as many as there are other buses: to the nearest 11 on either
+    /// side and to the one across.
+    fn dense(buses: u16) -> Self {
+        let half = buses / 2;
+        Self::ring("dense ring", buses, (1..half.min(12)).chain([half]))
+    }
+
+    /// The network file, with need 1 at each bus.
+    fn file(&self, lines: &[(u16, u16)]) -> Vec<u8> {
+        let mut file = self.buses.to_le_bytes().to_vec();
+        file.extend(vec![1; self.buses.into()]);
+        file.extend((lines.len() as u16).to_le_bytes());
+        file.extend(lines.iter().flat_map(|(a, b)| [a.to_le_bytes(), b.to_le_bytes()].concat()));
+        file
+    }
+
+    fn ascending(&self) -> Vec<u8> {
+        self.file(&self.lines)
+    }
+
+    /// The file with its records in any order, and each turned or not.
+    fn shuffled(&self) -> Vec<u8> {
+        let mut state = 0x5EED_u64;
+        let mut below = |bound: usize| {
+            state ^= state << 13;
+            state ^= state >> 7;
+            state ^= state << 17;
+            (state >> 16) as usize % bound
+        };
+        let mut lines = self.lines.clone();
+        for last in (1..lines.len()).rev() {
+            lines.swap(last, below(last + 1));
+        }
+        for line in &mut lines {
+            if below(2) == 1 {
+                *line = (line.1, line.0);
+            }
+        }
+        self.file(&lines)
+    }
+
+    fn table(&self) -> Vec<u16> {
+        let mut table = vec![0; 2 * self.buses as usize + 2 + 2 * self.lines.len()];
+        share_sheet::read(&self.ascending(), &mut table).expect("the network is sound");
+        table
+    }
+}
+
+fn race_read(file: &[u8]) -> [f64; 2] {
+    let mut tables = [vec![0; limits().entries], vec![0; limits().entries]];
+    let [mine, other] = &mut tables;
+    race(
+        || _ = black_box(share_sheet::read(black_box(file), black_box(mine))),
+        || _ = black_box(plain::read(black_box(file), black_box(other))),
+    )
+}
+
+fn race_shares(table: &[u16]) -> [f64; 2] {
+    let mut numerators = [vec![0; limits().buses], vec![0; limits().buses]];
+    let [mine, other] = &mut numerators;
+    race(
+        || _ = black_box(share_sheet::shares(black_box(table), black_box(mine))),
+        || _ = black_box(plain::shares(black_box(table), black_box(other))),
+    )
+}
+
+/// The mean over all buses.
+fn race_share(table: &[u16]) -> [f64; 2] {
+    let n = table[0] as usize;
+    let all = race(
+        || (0..n).for_each(|bus| _ = black_box(share_sheet::share(black_box(table), bus))),
+        || (0..n).for_each(|bus| _ = black_box(plain::share(black_box(table), bus))),
+    );
+    all.map(|time| time / n as f64)
+}
+
+fn race_whole_sheet(table: &[u16]) -> [f64; 2] {
+    let mut texts = [vec![0; limits().text_bytes], vec![0; limits().text_bytes]];
+    let [mine, other] = &mut texts;
+    race(
+        || _ = black_box(share_sheet::whole_sheet(black_box(table), black_box(mine))),
+        || _ = black_box(plain::whole_sheet(black_box(table), black_box(other))),
+    )
+}
+
+/// All lines, one call for each.
+fn race_sheet_lines(table: &[u16]) -> [f64; 2] {
+    let n = table[0] as usize;
+    let mut texts = [vec![0; limits().text_bytes], vec![0; limits().text_bytes]];
+    let [mine, other] = &mut texts;
+    race(
+        || (0..=n).for_each(|i| _ = black_box(share_sheet::sheet_line(black_box(table), i, mine))),
+        || (0..=n).for_each(|i| _ = black_box(plain::sheet_line(black_box(table), i, other))),
+    )
+}
+
+fn print_calls(network: &Network) {
+    let table = network.table();
+    let calls = [
+        ("Read, records ascending", race_read(&network.ascending())),
+        ("Read, records shuffled and turned", race_read(&network.shuffled())),
+        ("Shares", race_shares(&table)),
+        ("Share, mean over all buses", race_share(&table)),
+        ("whole sheet, one call", race_whole_sheet(&table)),
+        ("whole sheet, a call for each line", race_sheet_lines(&table)),
+    ];
+    for (call, [library, plain]) in calls {
+        let ratio = library / plain;
+        println!("| {} | {call} | {library:.0} | {plain:.0} | {ratio:.2} |", network.name);
+    }
+}
+
+fn print_growth(network: impl Fn(u16) -> Network) {
+    println!("| Buses | Entries | Read, library | Read, plain | Shares, library | Shares, plain |");
+    println!("|---|---|---|---|---|---|");
+    let mut buses = 16;
+    while usize::from(buses) <= limits().buses {
+        let network = network(buses);
+        let table = network.table();
+        let entries = table.len();
+        let each = |times: [f64; 2]| times.map(|time| time / entries as f64);
+        let [read, plain_read] = each(race_read(&network.ascending()));
+        let [shares, plain_shares] = each(race_shares(&table));
+        println!(
+            "| {buses} | {entries} | {read:.2} | {plain_read:.2} | {shares:.2} | {plain_shares:.2} |"
+        );
+        buses *= 2;
+    }
+}
+
+fn main() {
+    println!("The proved library against a plain reading of the scope in safe Rust (tests/plain).");
+    println!("Times are nanoseconds, the best of many runs; library and plain reading take turns.");
+    println!("Slices are allocated before and not cleared between runs. Need 1 at each bus.");
+    println!();
+    println!("| Network | Call | Library | Plain | Library / plain |");
+    println!("|---|---|---|---|---|");
+    let most = limits().buses as u16;
+    for network in [Network::star(24), Network::sparse(most), Network::dense(most)] {
+        print_calls(&network);
+    }
+    println!();
+    println!("Growth: nanoseconds for each table entry, a ring (2 lines at each bus).");
+    println!();
+    print_growth(Network::sparse);
+    println!();
+    println!("Growth: nanoseconds for each table entry, 23 lines at each bus (15 for 16 buses).");
+    println!();
+    print_growth(Network::dense);
+}

@@ -129,9 +129,8 @@ impl<'a> Network<'a> {
                     && row.iter().all(|&other| (other as usize) < self.n && other as usize != bus)
             })
             && (0..self.n).all(|bus| {
-                let is_named_by = |&other: &u16| {
-                    self.row(other as usize).binary_search(&(bus as u16)).is_ok()
-                };
+                let is_named_by =
+                    |&other: &u16| self.row(other as usize).binary_search(&(bus as u16)).is_ok();
                 self.row(bus).iter().all(is_named_by)
             })
     }

@@ -1,0 +1,307 @@
+//! Networks, files and tables made at random from a seed, sound ones and damaged ones.
+
+/// Random numbers (xorshift with a multiplication), the same for the same seed.
+pub struct Random(u64);
+
+impl Random {
+    pub fn new(seed: u64) -> Self {
+        assert_ne!(seed, 0);
+        Random(seed)
+    }
+
+    pub fn word(&mut self) -> u64 {
+        self.0 ^= self.0 >> 12;
+        self.0 ^= self.0 << 25;
+        self.0 ^= self.0 >> 27;
+        self.0.wrapping_mul(0x2545_F491_4F6C_DD1D)
+    }
+
+    /// A number below `bound`; 0 if there is none.
+    pub fn below(&mut self, bound: usize) -> usize {
+        (self.word() >> 16) as usize % bound.max(1)
+    }
+
+    pub fn one_in(&mut self, many: usize) -> bool {
+        self.below(many) == 0
+    }
+
+    pub fn of<T: Copy>(&mut self, choices: &[T]) -> T {
+        choices[self.below(choices.len())]
+    }
+
+    fn shuffle<T>(&mut self, list: &mut [T]) {
+        for last in (1..list.len()).rev() {
+            list.swap(last, self.below(last + 1));
+        }
+    }
+}
+
+/// The needs of a network, and its lines in the order of their records.
+pub struct Network {
+    pub needs: Vec<u8>,
+    pub lines: Vec<(u16, u16)>,
+}
+
+impl Network {
+    /// A sound network. Most are small; some have as many buses and lines as may be.
+    pub fn random(random: &mut Random) -> Self {
+        let n = match random.below(600) {
+            0..=399 => 1 + random.below(12),
+            400..=540 => 13 + random.below(28),
+            541..=597 => 41 + random.below(80),
+            598 => 480 + random.below(33),
+            _ => 512,
+        };
+        let most = random.of(&[0, 1, 2, 3, 5, 8, 22, 23, 23]);
+        let tries = random.of(&[n / 2, n, 2 * n, n * most, 2 * n * most]);
+        let mut lines = Vec::new();
+        let mut rows = vec![Vec::new(); n];
+        for _ in 0..tries {
+            let (a, b) = (random.below(n), random.below(n));
+            let full = rows[a].len() >= most || rows[b].len() >= most;
+            if a != b && !full && !rows[a].contains(&b) {
+                rows[a].push(b);
+                rows[b].push(a);
+                lines.push((a.min(b) as u16, a.max(b) as u16));
+            }
+        }
+        if most == 23 && n > 24 && random.one_in(3) {
+            lines = Self::crowded(n, random);
+        }
+        let needs = random.of(&[1, 2, 24, 25, 26]);
+        let mut need = |bus: usize| match needs {
+            25 => 1 + random.below(24) as u8,
+            26 => 1 + random.below(rows[bus].len().min(22) + 2) as u8,
+            all => all,
+        };
+        let needs = (0..n).map(&mut need).collect();
+        let mut network = Network { needs, lines };
+        network.order(random);
+        network
+    }
+
+    /// Lines of which 23, or almost so many, are at each bus: those to the nearest buses of a
+    /// ring and to the one across, with a few left out.
+    fn crowded(n: usize, random: &mut Random) -> Vec<(u16, u16)> {
+        let missing = random.of(&[usize::MAX, 2, 50]);
+        let mut lines = Vec::new();
+        for bus in 0..n {
+            let across = (n % 2 == 0 && bus < n / 2).then_some(n / 2);
+            for step in (1..=11).chain(across) {
+                if missing == usize::MAX || !random.one_in(missing) {
+                    lines.push((bus as u16, ((bus + step) % n) as u16));
+                }
+            }
+        }
+        lines
+    }
+
+    /// Puts the records in ascending order or in any other, and turns none, some or all.
+    fn order(&mut self, random: &mut Random) {
+        self.lines.sort_unstable();
+        if random.one_in(2) {
+            random.shuffle(&mut self.lines);
+        }
+        let turned = random.of(&[0, 0, 1, 2]);
+        for line in &mut self.lines {
+            if turned > 0 && random.one_in(turned) {
+                *line = (line.1, line.0);
+            }
+        }
+    }
+
+    /// Puts one fault into needs or records.
+    pub fn damage(&mut self, random: &mut Random) {
+        let n = self.needs.len();
+        let bus = random.below(n) as u16;
+        let at = random.below(self.lines.len());
+        match random.below(7) {
+            0 => self.needs[bus as usize] = random.of(&[0, 25, 26, 255]),
+            1 => {
+                let wrong = n as u16 + random.of(&[0, 0, 1, 256]);
+                let (wrong, bus) = if random.one_in(2) { (bus, wrong) } else { (wrong, bus) };
+                self.put(at, (wrong, bus), random);
+            }
+            2 => self.put(at, (bus, bus), random),
+            3 | 4 => {
+                if let Some(&(a, b)) = self.lines.get(at) {
+                    let repeat = if random.one_in(2) { (a, b) } else { (b, a) };
+                    let place = random.below(self.lines.len() + 1);
+                    self.lines.insert(place, repeat);
+                }
+            }
+            // one bus in 24 records, of different lines where there are enough buses
+            5 => {
+                let has = self.lines.iter().filter(|&&(a, b)| a == bus || b == bus).count();
+                for _ in has..24 {
+                    let joined = |other: u16| {
+                        let lines = &self.lines;
+                        lines.contains(&(bus, other)) || lines.contains(&(other, bus))
+                    };
+                    let new = (0..n as u16).find(|&other| other != bus && !joined(other));
+                    let other = new.unwrap_or((bus + 1) % n as u16);
+                    self.lines.push(if random.one_in(2) { (bus, other) } else { (other, bus) });
+                }
+            }
+            _ => self.lines.truncate(at),
+        }
+    }
+
+    /// Puts a record in the place of another, or behind all.
+    fn put(&mut self, at: usize, record: (u16, u16), random: &mut Random) {
+        match self.lines.get_mut(at) {
+            Some(line) if random.one_in(2) => *line = record,
+            _ => self.lines.push(record),
+        }
+    }
+
+    /// The network file.
+    pub fn file(&self) -> Vec<u8> {
+        let mut file = (self.needs.len() as u16).to_le_bytes().to_vec();
+        file.extend(&self.needs);
+        file.extend((self.lines.len() as u16).to_le_bytes());
+        for (a, b) in &self.lines {
+            file.extend(a.to_le_bytes());
+            file.extend(b.to_le_bytes());
+        }
+        file
+    }
+
+    /// The neighbours of each bus, ascending.
+    pub fn rows(&self) -> Vec<Vec<u16>> {
+        let mut rows = vec![Vec::new(); self.needs.len()];
+        for &(a, b) in &self.lines {
+            rows[a as usize].push(b);
+            rows[b as usize].push(a);
+        }
+        rows.iter_mut().for_each(|row| row.sort_unstable());
+        rows
+    }
+}
+
+/// Damages the bytes of a file.
+pub fn damage_file(file: &mut Vec<u8>, random: &mut Random) {
+    let at = random.below(file.len());
+    let n = file.first_chunk().map_or(0, |&count| u16::from_le_bytes(count));
+    match random.below(9) {
+        0 if !file.is_empty() => file[at] = random.word() as u8,
+        1 if !file.is_empty() => file[at] = file[at].wrapping_add(random.of(&[1, 2, 254, 255])),
+        2 => file.truncate(at),
+        3 => file.truncate(file.len().saturating_sub(1 + random.below(4))),
+        4 => file.extend((0..=random.below(6)).map(|_| random.of(&[0, 1, 255]))),
+        5 => recount(file, 0, random.of(&[n.wrapping_add(1), n.wrapping_sub(1)])),
+        6 => recount(file, 0, random.of(&[0, 512, 513, 768, 0xFFFF])),
+        7 => recount(file, 2 + n as usize, random.of(&[5888, 5889, 0xFFFF])),
+        _ => {
+            let place = 2 + n as usize;
+            if let Some(&[low, high]) = file.get(place..place + 2) {
+                let m = u16::from_le_bytes([low, high]);
+                recount(file, place, random.of(&[m.wrapping_add(1), m.wrapping_sub(1)]));
+            }
+        }
+    }
+}
+
+/// Writes another count.
+fn recount(file: &mut [u8], place: usize, count: u16) {
+    if let Some(old) = file.get_mut(place..place + 2) {
+        old.copy_from_slice(&count.to_le_bytes());
+    }
+}
+
+/// Bytes that nobody meant as a file.
+pub fn random_bytes(random: &mut Random) -> Vec<u8> {
+    let most = random.of(&[3, 6, 26, 256]);
+    (0..random.below(40)).map(|_| random.below(most) as u8).collect()
+}
+
+/// Lays rows out behind n, the needs and the starts.
+pub fn table(needs: &[u8], rows: &[Vec<u16>]) -> Vec<u16> {
+    let mut table = vec![needs.len() as u16];
+    table.extend(needs.iter().map(|&need| need as u16));
+    let mut start = 0;
+    table.push(start);
+    for row in rows {
+        start += row.len() as u16;
+        table.push(start);
+    }
+    table.extend(rows.concat());
+    table
+}
+
+/// Puts one fault into the rows; where a network is too small for it, another.
+pub fn damage_rows(rows: &mut [Vec<u16>], random: &mut Random) {
+    let n = rows.len();
+    let bus = random.below(n);
+    let other = random.below(n);
+    let at = random.below(rows[bus].len());
+    match random.below(8) {
+        // a line that its other end does not know
+        0 if !rows[bus].is_empty() => drop(rows[bus].remove(at)),
+        1 if bus != other && !rows[bus].contains(&(other as u16)) => {
+            rows[bus].push(other as u16);
+            rows[bus].sort_unstable();
+        }
+        // a row out of order, or with one neighbour twice
+        2 if rows[bus].len() > 1 => {
+            let last = rows[bus].len() - 1;
+            rows[bus].swap(at.max(1) - 1, random.of(&[at.max(1), last]));
+        }
+        3 if !rows[bus].is_empty() => {
+            let twice = rows[bus][at];
+            rows[bus].insert(at, twice);
+        }
+        // two lines whose ends are exchanged on one side
+        4 if !rows[bus].is_empty() && !rows[other].is_empty() => {
+            let there = random.below(rows[other].len());
+            let (one, two) = (rows[bus][at], rows[other][there]);
+            rows[bus][at] = two;
+            rows[other][there] = one;
+            rows[bus].sort_unstable();
+            rows[other].sort_unstable();
+        }
+        // a bus that is not there
+        5 => rows[bus].push(n as u16 + random.of(&[0, 1, 256])),
+        // a bus with 24 lines, each known at both ends
+        6 if n > 24 => {
+            for other in (0..n).filter(|&other| other != bus).take(24) {
+                for (row, end) in [(bus, other as u16), (other, bus as u16)] {
+                    if !rows[row].contains(&end) {
+                        rows[row].push(end);
+                        rows[row].sort_unstable();
+                    }
+                }
+            }
+        }
+        // a bus that is its own neighbour
+        _ => {
+            rows[bus].push(bus as u16);
+            rows[bus].sort_unstable();
+        }
+    }
+}
+
+/// Damages the entries of a table.
+pub fn damage_table(table: &mut Vec<u16>, random: &mut Random) {
+    let n = table[0] as usize;
+    let at = random.below(table.len());
+    let need = 1 + random.below(n);
+    let start = 1 + n + random.below(n + 1);
+    match random.below(9) {
+        0 => table[at] = table[at].wrapping_add(random.of(&[1, 2, 0xFFFF, 0xFFFE, 256])),
+        1 => table[at] = random.below(n + 2) as u16,
+        2 => table[at] = random.word() as u16,
+        3 => table.truncate(at + 1),
+        4 => table.truncate(table.len() - 1),
+        5 => table[0] = random.of(&[0, n as u16 + 1, n as u16 - 1, 513]),
+        6 => table[need] = random.of(&[0, 1, 24, 25, 256, 257]),
+        7 => table[start] = table[start].wrapping_add(random.of(&[1, 0xFFFF])),
+        _ => table.swap(start, 1 + n + random.below(n + 1)),
+    }
+}
+
+/// Entries that nobody meant as a table.
+pub fn random_table(random: &mut Random) -> Vec<u16> {
+    let most = random.of(&[2, 3, 5, 30, 65536]);
+    (0..random.below(30)).map(|_| random.below(most) as u16).collect()
+}
