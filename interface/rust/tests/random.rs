@@ -235,7 +235,7 @@ fn tables() {
                     made::damage_rows(&mut rows, &mut random);
                 }
                 let mut table = made::table(&network.needs, &rows);
-                if kind >= 9 && kind < 14 {
+                if (9..14).contains(&kind) {
                     made::damage_table(&mut table, &mut random);
                 }
                 table

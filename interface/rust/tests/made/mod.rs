@@ -86,7 +86,7 @@ impl Network {
         let missing = random.of(&[usize::MAX, 2, 50]);
         let mut lines = Vec::new();
         for bus in 0..n {
-            let across = (n % 2 == 0 && bus < n / 2).then_some(n / 2);
+            let across = (n & 1 == 0 && bus < n / 2).then_some(n / 2);
             for step in (1..=11).chain(across) {
                 if missing == usize::MAX || !random.one_in(missing) {
                     lines.push((bus as u16, ((bus + step) % n) as u16));
