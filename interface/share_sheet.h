@@ -29,8 +29,8 @@
     13  the network does not have the bus, or the sheet does not have the line
     14  too few bytes are lent for the text
 
-   No call allocates memory or keeps anything for the next one. Calls may run at the same time,
-   as long as none writes what another uses. */
+   No call allocates memory or keeps anything for the next one; the largest takes some 26 KB of
+   stack. Calls may run at the same time, as long as none writes what another uses. */
 
 #ifndef SHARE_SHEET_H
 #define SHARE_SHEET_H

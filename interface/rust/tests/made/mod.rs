@@ -52,6 +52,28 @@ impl Network {
             598 => 480 + random.below(33),
             _ => 512,
         };
+        let lines = match random.below(10) {
+            0 if n > 24 => Self::crowded(n, random),
+            _ => Self::any_lines(n, random),
+        };
+        let mut network = Network { needs: vec![1; n], lines };
+        let rows = network.rows();
+        let kind = random.below(5);
+        for (need, row) in network.needs.iter_mut().zip(&rows) {
+            *need = match kind {
+                0 => 1,
+                1 => 24,
+                2 => 1 + random.below(24) as u8,
+                // up to one above the degree
+                _ => 1 + random.below(row.len() + 1) as u8,
+            };
+        }
+        network.order(random);
+        network
+    }
+
+    /// Lines between any buses, up to a number at each that is chosen at random.
+    fn any_lines(n: usize, random: &mut Random) -> Vec<(u16, u16)> {
         let most = random.of(&[0, 1, 2, 3, 5, 8, 22, 23, 23]);
         let tries = random.of(&[n / 2, n, 2 * n, n * most, 2 * n * most]);
         let mut lines = Vec::new();
@@ -65,19 +87,7 @@ impl Network {
                 lines.push((a.min(b) as u16, a.max(b) as u16));
             }
         }
-        if most == 23 && n > 24 && random.one_in(3) {
-            lines = Self::crowded(n, random);
-        }
-        let needs = random.of(&[1, 2, 24, 25, 26]);
-        let mut need = |bus: usize| match needs {
-            25 => 1 + random.below(24) as u8,
-            26 => 1 + random.below(rows[bus].len().min(22) + 2) as u8,
-            all => all,
-        };
-        let needs = (0..n).map(&mut need).collect();
-        let mut network = Network { needs, lines };
-        network.order(random);
-        network
+        lines
     }
 
     /// Lines of which 23, or almost so many, are at each bus: those to the nearest buses of a
