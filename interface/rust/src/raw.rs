@@ -90,11 +90,10 @@ mod tests {
     const C: u64 = 0xA5A5_5A5A_A5A5_5A5A;
     const D: u64 = 0x5A5A_A5A5_5A5A_A5A5;
 
-    // SAFETY, of all blocks below: pointers and lengths are those of live slices and of single
-    // numbers, and nothing that is lent for writing is lent twice.
-
     fn read(file: &[u8], table: &mut [u16]) -> (u8, usize, usize) {
         let (mut buses, mut lines) = (A, B);
+        // SAFETY: pointers and lengths are those of live slices and of single numbers, and nothing
+        // that is lent for writing is lent twice.
         let number = unsafe {
             share_sheet_read(
                 file.as_ptr(),
@@ -128,12 +127,14 @@ mod tests {
     fn degree_and_row() {
         let degree = |table: &[u16], bus| {
             let mut degree = A;
+            // SAFETY: as in `read`.
             let number =
                 unsafe { share_sheet_degree(table.as_ptr(), table.len(), bus, &mut degree) };
             (number, degree)
         };
         let row = |table: &[u16], bus| {
             let (mut start, mut length) = (A, B);
+            // SAFETY: as in `read`.
             let number = unsafe {
                 share_sheet_row(table.as_ptr(), table.len(), bus, &mut start, &mut length)
             };
@@ -153,6 +154,7 @@ mod tests {
     fn denominator_of_shares() {
         let shares = |table: &[u16], numerators: &mut [u64]| {
             let mut over = C;
+            // SAFETY: as in `read`.
             let number = unsafe {
                 share_sheet_shares(
                     table.as_ptr(),
@@ -176,6 +178,7 @@ mod tests {
     fn share_and_denominator() {
         let share = |table: &[u16], bus| {
             let (mut numerator, mut over) = (C, D);
+            // SAFETY: as in `read`.
             let number = unsafe {
                 share_sheet_share(table.as_ptr(), table.len(), bus, &mut numerator, &mut over)
             };
@@ -190,6 +193,7 @@ mod tests {
     fn cancelled_pair() {
         let cancel = |numerator, denominator| {
             let (mut top, mut bottom) = (C, D);
+            // SAFETY: as in `read`.
             let number =
                 unsafe { share_sheet_cancel(numerator, denominator, &mut top, &mut bottom) };
             (number, top, bottom)
@@ -204,6 +208,7 @@ mod tests {
     fn bytes_of_a_line() {
         let line = |table: &[u16], line, text: &mut [u8]| {
             let mut bytes = A;
+            // SAFETY: as in `read`.
             let number = unsafe {
                 share_sheet_line(
                     table.as_ptr(),
@@ -229,6 +234,7 @@ mod tests {
     fn bytes_of_a_whole_sheet() {
         let whole = |table: &[u16], text: &mut [u8]| {
             let mut bytes = A;
+            // SAFETY: as in `read`.
             let number = unsafe {
                 share_sheet_whole(
                     table.as_ptr(),
