@@ -1,14 +1,14 @@
 -- How an answer is told, and that 0 says accepted. Assumes nothing.
 use mathlib.Core.Bool.{Bool, true, false, cond}
 use mathlib.Core.List.{List, [], _∷_}
-use mathlib.Core.Path.{_≡_, refl, ap, _∙_}
+use mathlib.Core.Path.{_≡_, refl, sym, ap, subst, _∙_}
 use Prim.Native.Nat.{ℕ, zero, suc, _<_}
 use native.Mathlib.Omega.{arith}
 use Rattle.refusals.specs.declared.Refusal.{Refusal}
 use Rattle.refusals.specs.declared.Refusal.the-variants.{FileTooShort, BusCount, Need, LineCount, FileTooLong, LineEnds, CrowdedBus, RepeatedLine, NoDenominator, TableTooShort, NoNetwork, NumeratorsTooShort, NoSuchBus, TextTooShort}
 use Rattle.refusals.specs.Numbers.{numberOf}
 use Rattle.refusals.specs.Outcomes.{Outcome, gives, refuses, Cause, outcome, valuesOr}
-use Rattle.share_sheet_c.specs.Told.{numberFor, told}
+use Rattle.share_sheet_c.specs.Told.{numberFor, Tells, told}
 
 -- no refusal has number 0
 pub above-zero : (r : Refusal) → 0 < numberOf r
@@ -43,22 +43,18 @@ module _ {A : Type 0} where
       go true h = told-refused (numberOf (c .refusal)) values (above-zero (c .refusal))
       go false h = h
 
-  -- o is due, and the call refuses with the number k
-  module _ {o : Outcome A} {k : ℕ} (e : refuses k ≡ o) where
-    pub refused : {r : ℕ} → r ≡ k → r ≡ numberFor o
-    refused n = n ∙ ap numberFor e
+  -- what a call answers is o, as is due: it refuses with the number k
+  pub refused : {o answer : Outcome A} {k r : ℕ} {x : A} → answer ≡ refuses k → r ≡ k → answer ≡ o → Tells o x r x
+  refused {x = x} says n due =
+      let e = sym says ∙ due in
+      record { number = n ∙ ap numberFor e; values = ap (valuesOr x) e }
 
-    pub kept : (held : A) → held ≡ valuesOr held o
-    kept held = ap (valuesOr held) e
-
-  -- o is due, and the call gives these values
-  module _ {o : Outcome A} {values : A} (e : gives values ≡ o) where
-    pub accepted : 0 ≡ numberFor o
-    accepted = ap numberFor e
-
-    pub handed : (held : A) → values ≡ valuesOr held o
-    handed held = ap (valuesOr held) e
+  -- or it gives these values
+  pub accepted : {o answer : Outcome A} {values x : A} → answer ≡ gives values → answer ≡ o → Tells o x 0 values
+  accepted {x = x} says due =
+      let e = sym says ∙ due in
+      record { number = ap numberFor e; values = ap (valuesOr x) e }
 
   -- what holds of a refusal holds of what is told, whatever stands in the lent places
-  pub still : (P : Outcome A → Type 0) (cause : Refusal) (values : A) {r : ℕ} → r ≡ numberOf cause → P (refuses (numberOf cause)) → P (told r values)
-  still P cause values n p = rw (n, told-refused (numberOf cause) values (above-zero cause)) p
+  pub still : (P : Outcome A → Type 0) (cause : Refusal) (values : A) {answer : Outcome A} {r : ℕ} → answer ≡ refuses (numberOf cause) → r ≡ numberOf cause → P answer → P (told r values)
+  still P cause values says n p = rw (n, told-refused (numberOf cause) values (above-zero cause)) (subst P says p)

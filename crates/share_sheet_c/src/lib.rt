@@ -2,7 +2,6 @@
 // A call gives 0, or 01's number where it is refused. Values are handed back through lent places, which a refused call leaves as they were.
 ghost use mathlib.Core.Path.{_≡_};
 ghost use lib.ListN.{length};
-ghost use Rattle.refusals.specs.Outcomes.{valuesOr};
 ghost use Rattle.tables.specs.Limits.{maxBuses, maxEntries, maxBytes};
 ghost use Rattle.tables.specs.Answers.{degreeOutcome, rowPlaceOutcome, RowStands};
 ghost use Rattle.reading.specs.Read.{readOutcome, tableAfter};
@@ -11,7 +10,7 @@ ghost use Rattle.fraction.specs.Cancel.{cancelOutcome, CancelRule};
 ghost use Rattle.sheet.specs.Answers.{lineOutcome, lineAfter};
 ghost use Rattle.whole_sheet.specs.Whole.{sheetOutcome, sheetAfter};
 ghost use Rattle.whole_sheet.specs.Work.{longestSheet};
-ghost use Rattle.share_sheet_c.specs.Told.{numberFor, told, counted};
+ghost use Rattle.share_sheet_c.specs.Told.{Tells, told, counted};
 use fraction::Cancelled;
 use lookup::BusDegree;
 use lookup::RowPlace;
@@ -30,8 +29,7 @@ pub extern "C" fn share_sheet_read(
     buses: &mut usize,
     lines: &mut usize,
 ) -> u8
-    ensures answer { λ r. ⌜ r ≡ numberFor (readOutcome (now (file .entry)) (length (now (table .entry)))) ⌝ }
-    ensures values { λ _. ⌜ counted (now (buses .exit)) (now (lines .exit)) ≡ valuesOr (counted (now (buses .entry)) (now (lines .entry))) (readOutcome (now (file .entry)) (length (now (table .entry)))) ⌝ }
+    ensures answer { λ r. ⌜ Tells (readOutcome (now (file .entry)) (length (now (table .entry)))) (counted (now (buses .entry)) (now (lines .entry))) r (counted (now (buses .exit)) (now (lines .exit))) ⌝ }
     ensures stored { λ _. ⌜ now (table .exit) ≡ tableAfter (now (file .entry)) (now (table .entry)) ⌝ }
 {
     match reader::read(file, table) {
@@ -47,8 +45,7 @@ pub extern "C" fn share_sheet_read(
 // Gives the degree of a bus.
 #[no_mangle]
 pub extern "C" fn share_sheet_degree(table: &[u16], bus: usize, degree: &mut usize) -> u8
-    ensures answer { λ r. ⌜ r ≡ numberFor (degreeOutcome (now (table .entry)) bus) ⌝ }
-    ensures value { λ _. ⌜ now (degree .exit) ≡ valuesOr (now (degree .entry)) (degreeOutcome (now (table .entry)) bus) ⌝ }
+    ensures answer { λ r. ⌜ Tells (degreeOutcome (now (table .entry)) bus) (now (degree .entry)) r (now (degree .exit)) ⌝ }
 {
     match lookup::degree(table, bus) {
         BusDegree::Refused(cause) => cause.number(),
@@ -67,8 +64,7 @@ pub extern "C" fn share_sheet_row(
     start: &mut usize,
     length: &mut usize,
 ) -> u8
-    ensures answer { λ r. ⌜ r ≡ numberFor (rowPlaceOutcome (now (table .entry)) bus) ⌝ }
-    ensures values { λ _. ⌜ (now (start .exit), now (length .exit)) ≡ valuesOr (now (start .entry), now (length .entry)) (rowPlaceOutcome (now (table .entry)) bus) ⌝ }
+    ensures answer { λ r. ⌜ Tells (rowPlaceOutcome (now (table .entry)) bus) (now (start .entry), now (length .entry)) r (now (start .exit), now (length .exit)) ⌝ }
     ensures stands { λ r. ⌜ RowStands (now (table .entry)) bus (told r (now (start .exit), now (length .exit))) ⌝ }
 {
     match lookup::row_place(table, bus) {
@@ -84,8 +80,7 @@ pub extern "C" fn share_sheet_row(
 // Stores the numerators of all buses, and gives L.
 #[no_mangle]
 pub extern "C" fn share_sheet_shares(table: &[u16], numerators: &mut [u64], over: &mut u64) -> u8
-    ensures answer { λ r. ⌜ r ≡ numberFor (sharesOutcome (now (table .entry)) (length (now (numerators .entry)))) ⌝ }
-    ensures value { λ _. ⌜ now (over .exit) ≡ valuesOr (now (over .entry)) (sharesOutcome (now (table .entry)) (length (now (numerators .entry)))) ⌝ }
+    ensures answer { λ r. ⌜ Tells (sharesOutcome (now (table .entry)) (length (now (numerators .entry)))) (now (over .entry)) r (now (over .exit)) ⌝ }
     ensures stored { λ _. ⌜ now (numerators .exit) ≡ numeratorsAfter (now (table .entry)) (now (numerators .entry)) ⌝ }
     ensures fair { λ r. ⌜ AllFair (now (table .entry)) (length (now (numerators .entry))) (told r (now (over .exit))) (now (numerators .exit)) ⌝ }
 {
@@ -106,8 +101,7 @@ pub extern "C" fn share_sheet_share(
     numerator: &mut u64,
     over: &mut u64,
 ) -> u8
-    ensures answer { λ r. ⌜ r ≡ numberFor (shareOutcome (now (table .entry)) bus) ⌝ }
-    ensures values { λ _. ⌜ (now (numerator .exit), now (over .exit)) ≡ valuesOr (now (numerator .entry), now (over .entry)) (shareOutcome (now (table .entry)) bus) ⌝ }
+    ensures answer { λ r. ⌜ Tells (shareOutcome (now (table .entry)) bus) (now (numerator .entry), now (over .entry)) r (now (numerator .exit), now (over .exit)) ⌝ }
     ensures fair { λ r. ⌜ OneFair (now (table .entry)) bus (told r (now (numerator .exit), now (over .exit))) ⌝ }
 {
     match scorer::share(table, bus) {
@@ -128,8 +122,7 @@ pub extern "C" fn share_sheet_cancel(
     top: &mut u64,
     bottom: &mut u64,
 ) -> u8
-    ensures answer { λ r. ⌜ r ≡ numberFor (cancelOutcome numerator denominator) ⌝ }
-    ensures values { λ _. ⌜ (now (top .exit), now (bottom .exit)) ≡ valuesOr (now (top .entry), now (bottom .entry)) (cancelOutcome numerator denominator) ⌝ }
+    ensures answer { λ r. ⌜ Tells (cancelOutcome numerator denominator) (now (top .entry), now (bottom .entry)) r (now (top .exit), now (bottom .exit)) ⌝ }
     ensures rule { λ r. ⌜ CancelRule numerator denominator (told r (now (top .exit), now (bottom .exit))) ⌝ }
 {
     match fraction::cancel(numerator, denominator) {
@@ -150,8 +143,7 @@ pub extern "C" fn share_sheet_line(
     text: &mut [u8],
     bytes: &mut usize,
 ) -> u8
-    ensures answer { λ r. ⌜ r ≡ numberFor (lineOutcome (now (table .entry)) line (length (now (text .entry)))) ⌝ }
-    ensures value { λ _. ⌜ now (bytes .exit) ≡ valuesOr (now (bytes .entry)) (lineOutcome (now (table .entry)) line (length (now (text .entry)))) ⌝ }
+    ensures answer { λ r. ⌜ Tells (lineOutcome (now (table .entry)) line (length (now (text .entry)))) (now (bytes .entry)) r (now (bytes .exit)) ⌝ }
     ensures written { λ _. ⌜ now (text .exit) ≡ lineAfter (now (table .entry)) line (now (text .entry)) ⌝ }
 {
     match sheet::line(table, line, text) {
@@ -166,14 +158,13 @@ pub extern "C" fn share_sheet_line(
 // Writes the whole sheet at the front of a lent text, and gives its byte count.
 #[no_mangle]
 pub extern "C" fn share_sheet_whole(table: &[u16], text: &mut [u8], bytes: &mut usize) -> u8
-    ensures answer { λ r. ⌜ r ≡ numberFor (sheetOutcome (now (table .entry)) (length (now (text .entry)))) ⌝ }
-    ensures value { λ _. ⌜ now (bytes .exit) ≡ valuesOr (now (bytes .entry)) (sheetOutcome (now (table .entry)) (length (now (text .entry)))) ⌝ }
+    ensures answer { λ r. ⌜ Tells (sheetOutcome (now (table .entry)) (length (now (text .entry)))) (now (bytes .entry)) r (now (bytes .exit)) ⌝ }
     ensures written { λ _. ⌜ now (text .exit) ≡ sheetAfter (now (table .entry)) (now (text .entry)) ⌝ }
 {
     match whole_sheet::whole(table, text) {
         Written::Refused(cause) => cause.number(),
-        Written::Bytes(count) => {
-            *bytes = count;
+        Written::Bytes(all) => {
+            *bytes = all;
             0
         }
     }

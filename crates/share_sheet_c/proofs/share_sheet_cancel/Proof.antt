@@ -1,8 +1,8 @@
 -- `share_sheet_c::share_sheet_cancel` meets its contract. Assumes nothing.
 use borrow.Author.Needs.{needs}
-use mathlib.Core.Path.{sym, ap, subst, _∙_}
+use mathlib.Core.Path.{ap, subst}
 use Rattle.fraction.specs.Cancel.{cancelSays, CancelRule}
-use Rattle.share_sheet_c.specs.Telling.{refused, kept, accepted, handed, still}
+use Rattle.share_sheet_c.specs.Telling.{refused, still, accepted}
 use Rattle.share_sheet_c.proofs.share_sheet_cancel.Statement.{statement}
 use Rattle.share_sheet_c.proofs.share_sheet_cancel.Tie as tie
 
@@ -11,16 +11,14 @@ returns c =
     let m = c .before .before in
     let a = m .before .before in
     let says = ap cancelSays (m .cause .given .1) in
-    let e = sym says ∙ a .cancel .ensures .0 in
-    (refused e (c .number .ensures), (kept e _, still (CancelRule _ _) (m .cause .given .0 .0) _ (c .number .ensures) (subst (CancelRule _ _) says (a .cancel .ensures .1))))
+    (refused says (c .number .ensures) (a .cancel .ensures .0), still (CancelRule _ _) (m .cause .given .0 .0) _ says (c .number .ensures) (a .cancel .ensures .1))
 
 returns-2 : tie.Need-returns-2
 returns-2 c =
     let m = c .before in
     let a = m .before .before in
     let says = ap cancelSays (m .lowest .given .1) in
-    let e = sym says ∙ a .cancel .ensures .0 in
-    (accepted e, (handed e _, subst (CancelRule _ _) says (a .cancel .ensures .1)))
+    (accepted says (a .cancel .ensures .0), subst (CancelRule _ _) says (a .cancel .ensures .1))
 
 pub share-sheet-cancel-spec : {M : Type 1} → statement M
 share-sheet-cancel-spec =

@@ -1,8 +1,8 @@
 -- `share_sheet_c::share_sheet_line` meets its contract. Assumes nothing.
 use borrow.Author.Needs.{needs}
-use mathlib.Core.Path.{sym, ap, _∙_}
+use mathlib.Core.Path.{ap}
 use Rattle.sheet.specs.Answers.{writtenSays}
-use Rattle.share_sheet_c.specs.Telling.{refused, kept, accepted, handed}
+use Rattle.share_sheet_c.specs.Telling.{refused, accepted}
 use Rattle.share_sheet_c.proofs.share_sheet_line.Statement.{statement}
 use Rattle.share_sheet_c.proofs.share_sheet_line.Tie as tie
 
@@ -11,16 +11,14 @@ returns c =
     let m = c .before .before in
     let a = m .before .before .before .before in
     let says = ap writtenSays (m .cause .given .1) in
-    let e = sym says ∙ a .line .ensures .0 in
-    (refused e (c .number .ensures), (kept e _, a .line .ensures .1))
+    (refused says (c .number .ensures) (a .line .ensures .0), a .line .ensures .1)
 
 returns-2 : tie.Need-returns-2
 returns-2 c =
     let m = c .before in
     let a = m .before .before .before .before in
     let says = ap writtenSays (m .count .given .1) in
-    let e = sym says ∙ a .line .ensures .0 in
-    (accepted e, (handed e _, a .line .ensures .1))
+    (accepted says (a .line .ensures .0), a .line .ensures .1)
 
 pub share-sheet-line-spec : {M : Type 1} → statement M
 share-sheet-line-spec =

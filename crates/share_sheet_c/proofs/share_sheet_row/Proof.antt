@@ -1,9 +1,9 @@
 -- `share_sheet_c::share_sheet_row` meets its contract. Assumes nothing.
 use borrow.Author.Needs.{needs}
-use mathlib.Core.Path.{sym, ap, subst, _∙_}
+use mathlib.Core.Path.{ap, subst}
 use Rattle.tables.specs.Answers.{RowStands}
 use Rattle.lookup.specs.Answers.{placeSays}
-use Rattle.share_sheet_c.specs.Telling.{refused, kept, accepted, handed, still}
+use Rattle.share_sheet_c.specs.Telling.{refused, still, accepted}
 use Rattle.share_sheet_c.proofs.share_sheet_row.Statement.{statement}
 use Rattle.share_sheet_c.proofs.share_sheet_row.Tie as tie
 
@@ -12,16 +12,14 @@ returns c =
     let m = c .before .before in
     let a = m .before .before in
     let says = ap placeSays (m .cause .given .1) in
-    let e = sym says ∙ a .row-place .ensures .0 in
-    (refused e (c .number .ensures), (kept e _, still (RowStands _ _) (m .cause .given .0 .0) _ (c .number .ensures) (subst (RowStands _ _) says (a .row-place .ensures .1))))
+    (refused says (c .number .ensures) (a .row-place .ensures .0), still (RowStands _ _) (m .cause .given .0 .0) _ says (c .number .ensures) (a .row-place .ensures .1))
 
 returns-2 : tie.Need-returns-2
 returns-2 c =
     let m = c .before in
     let a = m .before .before in
     let says = ap placeSays (m .first .given .1) in
-    let e = sym says ∙ a .row-place .ensures .0 in
-    (accepted e, (handed e _, subst (RowStands _ _) says (a .row-place .ensures .1)))
+    (accepted says (a .row-place .ensures .0), subst (RowStands _ _) says (a .row-place .ensures .1))
 
 pub share-sheet-row-spec : {M : Type 1} → statement M
 share-sheet-row-spec =

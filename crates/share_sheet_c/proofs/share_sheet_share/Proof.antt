@@ -1,9 +1,9 @@
 -- `share_sheet_c::share_sheet_share` meets its contract. Assumes nothing.
 use borrow.Author.Needs.{needs}
-use mathlib.Core.Path.{sym, ap, subst, _∙_}
+use mathlib.Core.Path.{ap, subst}
 use Rattle.shares.specs.Answers.{OneFair}
 use Rattle.scorer.specs.Answers.{shareSays}
-use Rattle.share_sheet_c.specs.Telling.{refused, kept, accepted, handed, still}
+use Rattle.share_sheet_c.specs.Telling.{refused, still, accepted}
 use Rattle.share_sheet_c.proofs.share_sheet_share.Statement.{statement}
 use Rattle.share_sheet_c.proofs.share_sheet_share.Tie as tie
 
@@ -12,16 +12,14 @@ returns c =
     let m = c .before .before in
     let a = m .before .before in
     let says = ap shareSays (m .cause .given .1) in
-    let e = sym says ∙ a .share .ensures .0 in
-    (refused e (c .number .ensures), (kept e _, still (OneFair _ _) (m .cause .given .0 .0) _ (c .number .ensures) (subst (OneFair _ _) says (a .share .ensures .1))))
+    (refused says (c .number .ensures) (a .share .ensures .0), still (OneFair _ _) (m .cause .given .0 .0) _ says (c .number .ensures) (a .share .ensures .1))
 
 returns-2 : tie.Need-returns-2
 returns-2 c =
     let m = c .before in
     let a = m .before .before in
     let says = ap shareSays (m .part .given .1) in
-    let e = sym says ∙ a .share .ensures .0 in
-    (accepted e, (handed e _, subst (OneFair _ _) says (a .share .ensures .1)))
+    (accepted says (a .share .ensures .0), subst (OneFair _ _) says (a .share .ensures .1))
 
 pub share-sheet-share-spec : {M : Type 1} → statement M
 share-sheet-share-spec =

@@ -1,12 +1,12 @@
 -- `share_sheet_c::share_sheet_shares` meets its contract. Assumes nothing.
 use borrow.Author.Needs.{needs}
-use mathlib.Core.Path.{sym, ap, subst, _∙_}
+use mathlib.Core.Path.{ap, subst}
 use mathlib.Core.List.{List}
 use Prim.Native.Nat.{ℕ}
 use Rattle.refusals.specs.Outcomes.{Outcome}
 use Rattle.shares.specs.Answers.{AllFair}
 use Rattle.scorer.specs.Answers.{sharesSays}
-use Rattle.share_sheet_c.specs.Telling.{refused, kept, accepted, handed, still}
+use Rattle.share_sheet_c.specs.Telling.{refused, still, accepted}
 use Rattle.share_sheet_c.proofs.share_sheet_shares.Statement.{statement}
 use Rattle.share_sheet_c.proofs.share_sheet_shares.Tie as tie
 
@@ -19,16 +19,14 @@ returns c =
     let m = c .before .before in
     let a = m .before .before .before .before in
     let says = ap sharesSays (m .cause .given .1) in
-    let e = sym says ∙ a .shares .ensures .0 in
-    (refused e (c .number .ensures), (kept e _, (a .shares .ensures .1 .0, still (FairAs _ _ _) (m .cause .given .0 .0) _ (c .number .ensures) (subst (FairAs _ _ _) says (a .shares .ensures .1 .1)))))
+    (refused says (c .number .ensures) (a .shares .ensures .0), (a .shares .ensures .1 .0, still (FairAs _ _ _) (m .cause .given .0 .0) _ says (c .number .ensures) (a .shares .ensures .1 .1)))
 
 returns-2 : tie.Need-returns-2
 returns-2 c =
     let m = c .before in
     let a = m .before .before .before .before in
     let says = ap sharesSays (m .denominator .given .1) in
-    let e = sym says ∙ a .shares .ensures .0 in
-    (accepted e, (handed e _, (a .shares .ensures .1 .0, subst (FairAs _ _ _) says (a .shares .ensures .1 .1))))
+    (accepted says (a .shares .ensures .0), (a .shares .ensures .1 .0, subst (FairAs _ _ _) says (a .shares .ensures .1 .1)))
 
 pub share-sheet-shares-spec : {M : Type 1} → statement M
 share-sheet-shares-spec =
