@@ -14,24 +14,18 @@
 int main(void)
 {
     size_t most = share_sheet_max_bytes() + 1; /* a byte more than any network file has */
-    size_t entries = share_sheet_max_entries();
-    size_t room = share_sheet_max_text();
-    uint8_t *file = malloc(most);
-    uint16_t *table = malloc(entries * sizeof *table);
-    uint8_t *text = malloc(room);
+    size_t entries = share_sheet_max_entries(), room = share_sheet_max_text();
     size_t length, buses, lines, bytes = 0;
-    uint8_t refused;
+    uint8_t *file = malloc(most), *text = malloc(room), refused;
+    uint16_t *table = malloc(entries * sizeof *table);
 
-    if (file == NULL || table == NULL || text == NULL) {
-        fputs("example: no memory\n", stderr);
+    if (file == NULL || text == NULL || table == NULL)
         return EXIT_FAILURE;
-    }
     length = fread(file, 1, most, stdin);
     if (ferror(stdin)) {
         perror("example: cannot read");
         return EXIT_FAILURE;
     }
-
     refused = share_sheet_read(file, length, table, entries, &buses, &lines);
     if (refused == 0)
         refused = share_sheet_whole(table, entries, text, room, &bytes);
@@ -39,9 +33,8 @@ int main(void)
         fwrite(text, 1, bytes, stdout);
     else
         printf("refused %d\n", refused);
-
     free(file);
-    free(table);
     free(text);
-    return refused == 0 && fflush(stdout) == 0 && !ferror(stdout) ? EXIT_SUCCESS : EXIT_FAILURE;
+    free(table);
+    return refused == 0 && fflush(stdout) == 0 ? EXIT_SUCCESS : EXIT_FAILURE;
 }

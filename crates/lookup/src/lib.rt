@@ -20,33 +20,7 @@ pub enum RowPlace {
     Refused(Refusal),
 }
 
-// How many neighbours a bus of the lent table has.
-pub fn degree(table: &[u16], bus: usize) -> BusDegree
-    ensures { λ r. ⌜ degreeSays r ≡ degreeOutcome (now (table .entry)) bus ⌝ }
-{
-    if !holds(table) {
-        return BusDegree::Refused(Refusal::NoNetwork);
-    }
-    if size(table) <= bus {
-        return BusDegree::Refused(Refusal::NoSuchBus);
-    }
-    BusDegree::Is(neighbours(table, bus).len())
-}
-
-// The part of the lent table that holds a bus's neighbours; the empty part where `degree` refuses.
-pub fn row(table: &[u16], bus: usize) -> &[u16]
-    ensures { λ r. ⌜ now r ≡ rowOutcome (now (table .entry)) bus ⌝ }
-{
-    if !holds(table) {
-        return &table[..0];
-    }
-    if size(table) <= bus {
-        return &table[..0];
-    }
-    neighbours(table, bus)
-}
-
-// Where in the lent table `row` finds its part, for callers who cannot be handed one.
+// Where the row of a bus stands in the lent table.
 pub fn row_place(table: &[u16], bus: usize) -> RowPlace
     ensures answer { λ r. ⌜ placeSays r ≡ rowPlaceOutcome (now (table .entry)) bus ⌝ }
     ensures stands { λ r. ⌜ RowStands (now (table .entry)) bus (placeSays r) ⌝ }
@@ -58,4 +32,24 @@ pub fn row_place(table: &[u16], bus: usize) -> RowPlace
         return RowPlace::Refused(Refusal::NoSuchBus);
     }
     RowPlace::At(row_start(table, bus), neighbours(table, bus).len())
+}
+
+// How many neighbours a bus of the lent table has.
+pub fn degree(table: &[u16], bus: usize) -> BusDegree
+    ensures { λ r. ⌜ degreeSays r ≡ degreeOutcome (now (table .entry)) bus ⌝ }
+{
+    match row_place(table, bus) {
+        RowPlace::Refused(cause) => BusDegree::Refused(cause),
+        RowPlace::At(_, entries) => BusDegree::Is(entries),
+    }
+}
+
+// The part of the lent table that holds a bus's neighbours; the empty part where `degree` refuses.
+pub fn row(table: &[u16], bus: usize) -> &[u16]
+    ensures { λ r. ⌜ now r ≡ rowOutcome (now (table .entry)) bus ⌝ }
+{
+    match row_place(table, bus) {
+        RowPlace::Refused(_) => &table[..0],
+        RowPlace::At(start, entries) => &table[start..start + entries],
+    }
 }

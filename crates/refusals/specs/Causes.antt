@@ -77,3 +77,9 @@ module _ {A B : Type 0} where
 -- whether a call is refused does not hang on its values
 pub refuses-any : {A B : Type 0} (cs : List Cause) (u : A) (v : B) {k : ℕ} → outcome cs u ≡ refuses k → outcome cs v ≡ refuses k
 refuses-any cs u v e = ap (λ l. outcome l v) (sym (append-nil cs)) ∙ first-refuses [] u v cs e
+
+-- and where values are given, so are others of the same call
+pub gives-part : {A B : Type 0} (cs : List Cause) (values : A) {w : A} (part : A → B) → outcome cs values ≡ gives w → outcome cs (part values) ≡ gives (part w)
+gives-part cs values part e =
+    let z = no-cause cs values e in
+    none-gives cs (part values) (z .0) ∙ ap (λ x. gives (part x)) (sym (z .1))

@@ -43,17 +43,17 @@ module _ {A : Type 0} where
       go true h = told-refused (numberOf (c .refusal)) values (above-zero (c .refusal))
       go false h = h
 
-  -- what a call answers is o, as is due: it refuses with the number k
-  pub refused : {o answer : Outcome A} {k r : ℕ} {x : A} → answer ≡ refuses k → r ≡ k → answer ≡ o → Tells o x r x
-  refused {x = x} says n due =
-      let e = sym says ∙ due in
-      record { number = n ∙ ap numberFor e; values = ap (valuesOr x) e }
-
-  -- or it gives these values
+  -- what a call answers is o, as is due: it gives these values
   pub accepted : {o answer : Outcome A} {values x : A} → answer ≡ gives values → answer ≡ o → Tells o x 0 values
   accepted {x = x} says due =
       let e = sym says ∙ due in
       record { number = ap numberFor e; values = ap (valuesOr x) e }
+
+  -- or it refuses with the number k
+  pub refused : {o answer : Outcome A} {k r : ℕ} {x : A} → answer ≡ refuses k → r ≡ k → answer ≡ o → Tells o x r x
+  refused {x = x} says n due =
+      let e = sym says ∙ due in
+      record { number = n ∙ ap numberFor e; values = ap (valuesOr x) e }
 
   -- what holds of a refusal holds of what is told, whatever stands in the lent places
   pub still : (P : Outcome A → Type 0) (cause : Refusal) (values : A) {answer : Outcome A} {r : ℕ} → answer ≡ refuses (numberOf cause) → r ≡ numberOf cause → P answer → P (told r values)

@@ -1,34 +1,24 @@
 -- `lookup::degree` meets its contract. Assumes nothing.
 use borrow.Author.Needs.{needs}
-use native.Mathlib.Omega.{arith}
 use mathlib.Core.Path.{sym, ap, _∙_}
-use Prim.Native.Nat.{ℕ}
-use lib.ListN.{length}
-use Rattle.lists.specs.Tests.{passed, failed}
-use Rattle.tables.specs.Facts.{holds-facts}
-use Rattle.tables.specs.Layout.{size}
-use Rattle.tables.specs.Calls.{no-network, no-bus, given}
-use Rattle.refusals.specs.Outcomes.{gives}
-use mathlib.Core.List.{List}
+use Rattle.refusals.specs.Causes.{refuses-any, gives-part}
+use Rattle.tables.specs.Answers.{busCauses}
+use Rattle.lookup.specs.Answers.{placeSays}
 use Rattle.lookup.proofs.degree.Statement.{statement}
 use Rattle.lookup.proofs.degree.Tie as tie
 
 returns : tie.Need-returns
-returns c = sym (no-network _ _ _ (failed (c .before .holds .ensures) (c .if1 .taken)))
-
-size-requires : tie.Need-size-requires
-size-requires c κs = let z = holds-facts _ (passed (c .before .holds .ensures) (c .if1 .left)) .complete in omega arith
+returns c =
+    let p = c .before .before .before in
+    let a = p .before .before .args in
+    sym (refuses-any (busCauses (a .table .now) (a .bus)) _ _ (sym (p .row-place .ensures .0) ∙ ap placeSays (c .before .cause .given .1)))
 
 returns-2 : tie.Need-returns-2
-returns-2 c = sym (no-bus _ _ _ (passed (c .before .before .before .holds .ensures) (c .before .before .if1 .left)) (c .before .size .ensures .0) (c .if2 .taken))
-
-neighbours-requires : tie.Need-neighbours-requires
-neighbours-requires c κs = (holds-facts _ (passed (c .before .before .before .holds .ensures) (c .before .before .if1 .left)), omega (arith, c .before .size .ensures .0))
-
-returns-3 : tie.Need-returns-3
-returns-3 c = ap (λ (r : List ℕ). gives (length r)) (c .neighbours .ensures) ∙ sym (given _ _ _ (passed (c .before .before .before .before .holds .ensures) (c .before .before .before .if1 .left)) (c .before .before .size .ensures .0) (c .before .if2 .left))
+returns-2 c =
+    let p = c .before .before .before in
+    let a = p .before .before .args in
+    sym (gives-part (busCauses (a .table .now) (a .bus)) _ (λ w. w .1) (sym (p .row-place .ensures .0) ∙ ap placeSays (c .before .entries .given .1)))
 
 pub degree-spec : {M : Type 1} → statement M
 degree-spec =
-    tie.close
-    (tie.spec (λ c κs. search needs) returns size-requires returns-2 neighbours-requires returns-3)
+    tie.close (tie.spec (λ c κs. search needs) (λ c. search needs) (λ c. search needs) returns returns-2)

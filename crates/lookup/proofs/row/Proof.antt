@@ -1,30 +1,39 @@
 -- `lookup::row` meets its contract. Assumes nothing.
 use borrow.Author.Needs.{needs}
 use native.Mathlib.Omega.{arith}
-use mathlib.Core.Path.{sym, ap, _∙_}
-use Rattle.lists.specs.Tests.{passed, failed}
-use Rattle.tables.specs.Facts.{holds-facts}
-use Rattle.tables.specs.Layout.{size}
-use Rattle.tables.specs.Calls.{no-network, no-bus, given}
-use Rattle.refusals.specs.Outcomes.{valuesOr}
-use mathlib.Core.List.{[]}
+use mathlib.Core.Path.{_≡_, sym, ap, subst}
+use Prim.Native.Nat.{_+_, _≤_}
+use lib.ListN.{length}
+use Rattle.lists.specs.Lists.{part}
+use Rattle.tables.specs.Answers.{rowOutcome, RowStands}
+use Rattle.lookup.specs.Answers.{placeSays}
 use Rattle.lookup.proofs.row.Statement.{statement}
 use Rattle.lookup.proofs.row.Tie as tie
 
-returns : tie.Need-returns
-returns c = ap (valuesOr []) (sym (no-network _ _ _ (failed (c .before .before .holds .ensures) (c .before .if1 .taken))))
+-- the row stands at the place that is given
+module _ (c : tie.After-start) where
+  stands : let a = c .before .before .before .before .args in
+      let start = c .start .given .0 .0 in
+      let entries = c .start .given .0 .1 .0 in
+      (start + entries ≤ length (a .table .now)) × (part start (start + entries) (a .table .now) ≡ rowOutcome (a .table .now) (a .bus))
+  stands = subst (RowStands _ _) (ap placeSays (c .start .given .1)) (c .before .before .row-place .ensures .1)
 
-size-requires : tie.Need-size-requires
-size-requires c κs = let z = holds-facts _ (passed (c .before .holds .ensures) (c .if1 .left)) .complete in omega arith
+add-result : tie.Need-add-result
+add-result c = let z = stands (c .before) .0 in omega arith
+
+mul-result : tie.Need-mul-result
+mul-result c = let z = stands (c .before) .0 in omega arith
+
+part-result-end : tie.Need-part-result-end
+part-result-end c = stands (c .before) .0
+
+returns : tie.Need-returns
+returns c =
+    let e = c .before in
+    sym (subst (RowStands _ _) (ap placeSays (e .enum-told .given .1)) (e .before .before .row-place .ensures .1))
 
 returns-2 : tie.Need-returns-2
-returns-2 c = ap (valuesOr []) (sym (no-bus _ _ _ (passed (c .before .before .before .before .holds .ensures) (c .before .before .before .if1 .left)) (c .before .before .size .ensures .0) (c .before .if2 .taken)))
-
-neighbours-requires : tie.Need-neighbours-requires
-neighbours-requires c κs = (holds-facts _ (passed (c .before .before .before .holds .ensures) (c .before .before .if1 .left)), omega (arith, c .before .size .ensures .0))
-
-returns-3 : tie.Need-returns-3
-returns-3 c = c .neighbours .ensures ∙ ap (valuesOr []) (sym (given _ _ _ (passed (c .before .before .before .before .holds .ensures) (c .before .before .before .if1 .left)) (c .before .before .size .ensures .0) (c .before .if2 .left)))
+returns-2 c = stands (c .before .before) .1
 
 pub row-spec : {M : Type 1} → statement M
 row-spec =
@@ -32,9 +41,12 @@ row-spec =
     (tie.spec
     (λ c κs. search needs)
     (λ c. search needs)
-    returns
-    size-requires
     (λ c. search needs)
-    returns-2
-    neighbours-requires
-    returns-3)
+    (λ c. search needs)
+    add-result
+    mul-result
+    (λ c. search needs)
+    (λ c. search needs)
+    part-result-end
+    returns
+    returns-2)

@@ -31,18 +31,18 @@ size-requires c κs = let z = holds-facts _ (held c) .complete in omega arith
 returns-2 : tie.Need-returns-2
 returns-2 c = placed _ _ (sym (no-bus _ _ _ (held (c .before .before)) (c .before .size .ensures .0) (c .if2 .taken)))
 
-row-start-requires : tie.Need-row-start-requires
-row-start-requires c κs = has-bus c
-
-neighbours-requires : tie.Need-neighbours-requires
-neighbours-requires c κs = has-bus (c .before)
-
 returns-3 : tie.Need-returns-3
 returns-3 c =
     let e = c .before .before in
     placed _ _
     (ap₂ (λ start many. gives (start, many)) (c .before .row-start .ensures) (ap length (c .neighbours .ensures))
     ∙ sym (given _ _ _ (held (e .before .before)) (e .before .size .ensures .0) (e .if2 .left)))
+
+row-start-requires : tie.Need-row-start-requires
+row-start-requires c κs = has-bus c
+
+neighbours-requires : tie.Need-neighbours-requires
+neighbours-requires c κs = has-bus (c .before)
 
 pub row-place-spec : {M : Type 1} → statement M
 row-place-spec =
