@@ -1,7 +1,8 @@
 -- A refusal is told by its number. Assumes nothing.
 use mathlib.Core.List.{List, [], _∷_}
 use mathlib.Core.Path.{_≡_, refl, sym, ap, _∙_}
-use Prim.Native.Nat.{ℕ, _-_}
+use Prim.Native.Nat.{ℕ, zero, suc, _-_, _<_}
+use native.Mathlib.Omega.{arith}
 use lib.ListN.{getD}
 use Rattle.refusals.specs.declared.Refusal.{Refusal}
 use Rattle.refusals.specs.declared.Refusal.the-variants.{FileTooShort, BusCount, Need, LineCount, FileTooLong, LineEnds, CrowdedBus, RepeatedLine, NoDenominator, TableTooShort, NoNetwork, NumeratorsTooShort, NoSuchBus, TextTooShort}
@@ -34,3 +35,12 @@ back TextTooShort = refl
 -- no two refusals have one number
 pub number-tells : (a b : Refusal) → numberOf a ≡ numberOf b → a ≡ b
 number-tells a b e = sym (back a) ∙ ap named e ∙ back b
+
+-- and none has number 0
+pub above-zero : (r : Refusal) → 0 < numberOf r
+unfolding named inOrder
+above-zero r = go (numberOf r) (back r) refl
+  where
+    go : (k : ℕ) → named k ≡ r → k ≡ numberOf r → 0 < k
+    go zero first e = let one = ap numberOf first in omega arith
+    go (suc k) other e = omega arith

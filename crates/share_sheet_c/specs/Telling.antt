@@ -5,30 +5,13 @@ use mathlib.Core.Path.{_≡_, refl, sym, ap, subst, _∙_}
 use Prim.Native.Nat.{ℕ, zero, suc, _<_}
 use native.Mathlib.Omega.{arith}
 use Rattle.refusals.specs.declared.Refusal.{Refusal}
-use Rattle.refusals.specs.declared.Refusal.the-variants.{FileTooShort, BusCount, Need, LineCount, FileTooLong, LineEnds, CrowdedBus, RepeatedLine, NoDenominator, TableTooShort, NoNetwork, NumeratorsTooShort, NoSuchBus, TextTooShort}
 use Rattle.refusals.specs.Numbers.{numberOf}
+use Rattle.refusals.specs.Tells.{above-zero}
 use Rattle.refusals.specs.Outcomes.{Outcome, gives, refuses, Cause, outcome, valuesOr}
 use Rattle.share_sheet_c.specs.Told.{numberFor, Tells, told}
 
--- no refusal has number 0
-pub above-zero : (r : Refusal) → 0 < numberOf r
-above-zero FileTooShort = omega arith
-above-zero BusCount = omega arith
-above-zero Need = omega arith
-above-zero LineCount = omega arith
-above-zero FileTooLong = omega arith
-above-zero LineEnds = omega arith
-above-zero CrowdedBus = omega arith
-above-zero RepeatedLine = omega arith
-above-zero NoDenominator = omega arith
-above-zero TableTooShort = omega arith
-above-zero NoNetwork = omega arith
-above-zero NumeratorsTooShort = omega arith
-above-zero NoSuchBus = omega arith
-above-zero TextTooShort = omega arith
-
 module _ {A : Type 0} where
-  -- so a number above 0 says refused, whatever stands in the lent places
+  -- a number above 0 says refused, whatever stands in the lent places
   pub told-refused : (k : ℕ) (values : A) → 0 < k → told k values ≡ refuses k
   told-refused zero values h = absurd (omega arith)
   told-refused (suc k) values h = refl
