@@ -1,16 +1,26 @@
 -- What is printed once Read has answered. Assumes nothing.
 use mathlib.Core.List.{List}
 use mathlib.Core.Path.{_≡_, sym, ap, _∙_}
-use Prim.Native.Nat.{ℕ}
-use lib.ListN.{length}
+use Prim.Native.Nat.{ℕ, _≤_, _<_}
+use native.Mathlib.Omega.{arith}
+use lib.ListN.{length, length-append}
+use Rattle.lists.specs.Lists.{at}
+use Rattle.text.specs.Text.{filled}
+use Rattle.text.specs.Decimal.{decimal-few}
 use Rattle.refusals.specs.Outcomes.{gives, refuses}
 use Rattle.tables.specs.Limits.{maxEntries}
 use Rattle.format.specs.declared.Counts.{Counts}
 use Rattle.reading.specs.Read.{readOutcome, fileTable, tableAfter}
 use Rattle.reading.specs.Recorded.{stored-alike}
 use Rattle.whole_sheet.specs.Whole.{wholeSheet}
+use Rattle.whole_sheet.specs.Work.{longestLine}
 use Rattle.whole_sheet.specs.Same.{same-sheet}
 use Rattle.report.specs.Report.{refusedLine, sheetOr, printed}
+
+-- the line of a number of one byte is no longer than those of sheets
+pub refused-fits : (k : ℕ) → k < 256 → length (refusedLine k) ≤ longestLine
+unfolding filled at
+refused-fits k h = simp length-append (omega (arith, decimal-few 2 k (omega arith)))
 
 -- Read was lent x, which has room for any table
 module _ (f x : List ℕ) (room : length x ≡ maxEntries) where

@@ -4,7 +4,7 @@ use mathlib.Core.Path.{_≡_, ap, fun-ext}
 use Prim.Native.Nat.{ℕ, zero, suc}
 use Rattle.lists.specs.Lists.{has}
 use Rattle.lists.specs.Below.{sumBelow, countBelow}
-use Rattle.tables.specs.Layout.{size, row, lines}
+use Rattle.tables.specs.Layout.{size, lines}
 use Rattle.tables.specs.Answers.{Alike}
 use Rattle.formula.specs.Same.{same-denominator, same-numerator}
 use Rattle.sheet.specs.Sheet.{sheetLine}

@@ -4,7 +4,6 @@ ghost use Prim.Native.Nat.{_^_, _≤_, _<_};
 ghost use lib.ListN.{length};
 ghost use Rattle.lists.specs.Lists.{count};
 ghost use Rattle.text.specs.Text.{sign, filled};
-ghost use Rattle.text.specs.Words.{Words};
 ghost use Rattle.tables.specs.Layout.{size};
 ghost use Rattle.tables.specs.Holds.{Holds};
 ghost use Rattle.formula.specs.Formula.{denominator};
@@ -43,7 +42,7 @@ impl Template {
 // The numbers of the heading.
 pub fn heading_numbers(table: &[u16], over: u64) -> [u64; 3]
     requires { ⌜ Holds (now table) × (over ≡ denominator (now table)) ⌝ }
-    ensures { λ r. ⌜ (r ≡ headingNumbers (now (table .entry))) × Words r ⌝ }
+    ensures { λ r. ⌜ r ≡ headingNumbers (now (table .entry)) ⌝ }
 {
     [size(table) as u64, lines(table) as u64, over]
 }
@@ -51,7 +50,7 @@ pub fn heading_numbers(table: &[u16], over: u64) -> [u64; 3]
 // The numbers of a bus's line, whose numerator is known.
 pub fn bus_numbers(table: &[u16], over: u64, numerator: u64, bus: usize) -> [u64; 6]
     requires { ⌜ Holds (now table) × (bus < size (now table)) × (over ≡ denominator (now table)) × (numerator ≡ Formula·numerator (now table) bus) ⌝ }
-    ensures { λ r. ⌜ (r ≡ busNumbers (now (table .entry)) bus) × Words r ⌝ }
+    ensures { λ r. ⌜ r ≡ busNumbers (now (table .entry)) bus ⌝ }
 {
     let need = entry(needs(table), bus) as u64;
     let degree = neighbours(table, bus).len() as u64;

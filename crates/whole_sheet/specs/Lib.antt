@@ -2,7 +2,7 @@
 pub mod Whole
 pub mod Examples
 pub mod Work
+pub mod Fits
 pub mod Lines
 pub mod Calls
 pub mod Same
-pub mod Fits

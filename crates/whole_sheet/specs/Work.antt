@@ -9,9 +9,9 @@ use Rattle.tables.specs.Layout.{size}
 use Rattle.tables.specs.Holds.{Holds}
 use Rattle.formula.specs.Formula.{denominator, numerator}
 
--- bytes of the longest line that 64-bit numbers can make, and of the longest sheet of such lines
+-- bytes that are enough for every line, and for every sheet: no line has more digits than `511 24 23 2741365186560 2741365186560/5354228880`
 abbrev pub longestLine : ℕ
-longestLine = 126
+longestLine = 49
 
 abbrev pub longestSheet : ℕ
 longestSheet = longestLine * (1 + maxBuses)

@@ -20,14 +20,14 @@ use sheet::heading_numbers;
 use table_test::holds;
 use text::fill;
 
-// The most bytes of texts.
+// Bytes that are enough for texts.
 pub struct Longest;
 
 impl Longest {
-    // Of a line that 64-bit numbers can make.
-    pub const LINE: usize = 126;
+    // For every line of a sheet.
+    pub const LINE: usize = 49;
 
-    // Of a sheet of such lines: the heading, and a line for each bus.
+    // For every sheet: the heading, and a line for each bus.
     pub const SHEET: usize = Longest::LINE * (1 + Network::BUSES);
 }
 

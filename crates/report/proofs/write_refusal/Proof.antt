@@ -1,22 +1,19 @@
 -- `report::write_refusal` meets its contract. Assumes nothing.
 use borrow.Author.Needs.{needs}
 use native.Mathlib.Omega.{arith}
-use mathlib.Core.List.{[], _∷_}
 use mathlib.Core.Path.{ap, _∙_}
-use Prim.Native.Nat.{_^_, _≤_, _<_}
+use Prim.Native.Nat.{_≤_}
 use lib.ListN.{length}
 use Rattle.lists.specs.Lists.{put}
-use Rattle.text.specs.Text.{filled}
-use Rattle.text.specs.Words.{words-none, words-more}
-use Rattle.report.specs.Report.{refusedForm, refusedLine}
+use Rattle.report.specs.Report.{refusedLine}
 use Rattle.whole_sheet.specs.Work.{longestLine}
-use Rattle.whole_sheet.specs.Lines.{line-few}
+use Rattle.report.specs.Printing.{refused-fits}
 use Rattle.report.proofs.write_refusal.Statement.{statement}
 use Rattle.report.proofs.write_refusal.Tie as tie
 
 -- the line of a number is short
-few : (c : tie.After-number) → length (filled refusedForm (c .number .result ∷ [])) ≤ longestLine
-few c = let small : c .number .result < 2 ^ 64 = omega arith in line-few refusedForm (c .number .result ∷ []) (omega arith) (words-more small words-none)
+few : (c : tie.After-number) → length (refusedLine (c .number .result)) ≤ longestLine
+few c = refused-fits (c .number .result) (omega arith)
 
 returns : tie.Need-returns
 returns c =

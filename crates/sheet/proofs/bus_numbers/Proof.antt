@@ -4,7 +4,6 @@ use native.Mathlib.Omega.{arith}
 use mathlib.Core.Path.{ap, _∙_}
 use lib.ListN.{length}
 use Rattle.lists.specs.Lists.{at}
-use Rattle.text.specs.Words.{words-none, words-more}
 use Rattle.tables.specs.Rows.{length-needs}
 use Rattle.formula.specs.Denominator.{denominator-some}
 use Rattle.sheet.specs.Calls.{numbers-read}
@@ -22,10 +21,8 @@ reduce-requires c κs = let s = c .before .before .before .before in omega (arit
 returns : tie.Need-returns
 returns c =
     let e = c .before .before in
-    let s = e .before .before .before in (
-      numbers-read _ _ (e .entry .ensures .0 ∙ ap (λ q. at q (s .args .bus)) (e .before .needs .ensures)) (ap length (c .before .neighbours .ensures)) (s .pre .3) (s .pre .2) (c .reduce .ensures),
-      words-more (omega arith) (words-more (omega arith) (words-more (omega arith) (words-more (omega arith) (words-more (omega arith) (words-more (omega arith) words-none))))),
-    )
+    let s = e .before .before .before in
+    numbers-read _ _ (e .entry .ensures .0 ∙ ap (λ q. at q (s .args .bus)) (e .before .needs .ensures)) (ap length (c .before .neighbours .ensures)) (s .pre .3) (s .pre .2) (c .reduce .ensures)
 
 pub bus-numbers-spec : {M : Type 1} → statement M
 bus-numbers-spec =

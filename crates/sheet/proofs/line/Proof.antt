@@ -41,7 +41,7 @@ heading-numbers-requires : tie.Need-heading-numbers-requires
 heading-numbers-requires c κs = let d = c .before .before in (holding d, d .denominator .ensures)
 
 place-requires : tie.Need-place-requires
-place-requires c κs = (omega (arith, ap length (c .before .before .heading-numbers .ensures .0)), omega arith)
+place-requires c κs = (omega (arith, ap length (c .before .before .heading-numbers .ensures)), omega arith)
 
 returns-3 : tie.Need-returns-3
 returns-3 c =
@@ -50,7 +50,7 @@ returns-3 c =
     let d = h .before .before .before in
     let a = d .before .before .before .before .before .before .before .args in
     as-text (a .table .now) (a .i) (a .out .now) (held (d .before .before .before)) (d .before .before .size .ensures .0) (has-line d)
-    (heading-read _ (h .before .before .if3 .taken) (h .heading-numbers .ensures .0)) (p .place .ensures)
+    (heading-read _ (h .before .before .if3 .taken) (h .heading-numbers .ensures)) (p .place .ensures)
 
 -- the line is that of the bus before it
 module _ (e : tie.Else3) where
@@ -72,7 +72,7 @@ bus-numbers-requires c κs =
     (holding d, has-bus e, d .denominator .ensures, c .before .numerator .ensures)
 
 place-requires-2 : tie.Need-place-requires-2
-place-requires-2 c κs = (omega (arith, ap length (c .before .before .bus-numbers .ensures .0)), omega arith)
+place-requires-2 c κs = (omega (arith, ap length (c .before .before .bus-numbers .ensures)), omega arith)
 
 returns-4 : tie.Need-returns-4
 returns-4 c =
@@ -82,7 +82,7 @@ returns-4 c =
     let d = e .before in
     let a = d .before .before .before .before .before .before .before .args in
     as-text (a .table .now) (a .i) (a .out .now) (held (d .before .before .before)) (d .before .before .size .ensures .0) (has-line d)
-    (bus-read _ (its-bus e) (b .bus-numbers .ensures .0)) (p .place2 .ensures)
+    (bus-read _ (its-bus e) (b .bus-numbers .ensures)) (p .place2 .ensures)
 
 pub line-spec : {M : Type 1} → statement M
 line-spec =

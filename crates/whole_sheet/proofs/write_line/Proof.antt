@@ -5,26 +5,36 @@ use mathlib.Core.Path.{_≡_, ap}
 use Prim.Native.Nat.{suc, _-_, _<_}
 use lib.ListN.{length}
 use Rattle.lists.specs.Lists.{at}
+use Rattle.text.specs.Text.{filled}
 use Rattle.tables.specs.Layout.{size}
-use Rattle.sheet.specs.Sheet.{headingForm, busForm}
+use Rattle.sheet.specs.Sheet.{headingForm, busForm, sheetLine}
 use Rattle.sheet.specs.Calls.{heading-read, bus-read}
-use Rattle.whole_sheet.specs.Lines.{line-few, line-written}
+use Rattle.whole_sheet.specs.Lines.{line-room, line-written}
 use Rattle.whole_sheet.proofs.write_line.Statement.{statement}
 use Rattle.whole_sheet.proofs.write_line.Tie as tie
 
+-- the text of a line, as it is filled in: the heading, or that of a bus
+heading : (c : tie.After-heading-numbers) → let a = c .before .before .before .before .before .before .args in filled headingForm (c .heading-numbers .result) ≡ sheetLine (a .table .now) (a .i)
+heading c = heading-read _ (c .before .before .if1 .taken) (c .heading-numbers .ensures)
+
+bus : (c : tie.After-bus-numbers) → let a = c .before .before .before .before .before .before .before .args in filled busForm (c .bus-numbers .result) ≡ sheetLine (a .table .now) (a .i)
+bus c =
+    let i = c .before .before .before .before .before .before .before .args .i in
+    let z : i ≡ suc (i - 1) = omega (arith, c .before .before .before .if1 .left) in
+    bus-read _ z (c .bus-numbers .ensures)
+
 fill-requires : tie.Need-fill-requires
 fill-requires c κs =
-    let e = c .before .before .heading-numbers .ensures in
-    let few = line-few headingForm _ (omega arith) (e .1) in
-    (omega (arith, ap length (e .0)), omega (arith, few, c .before .before .before .before .before .before .before .before .pre .2))
+    let h = c .before .before in
+    let s = h .before .before .before .before .before .before in
+    (omega (arith, ap length (h .heading-numbers .ensures)), line-room (s .pre .0 .holding) (s .pre .1) (heading h) (s .args .at) (s .pre .2))
 
 returns : tie.Need-returns
 returns c =
     let p = c .before .before in
     let h = p .before .before .before in
-    let e = h .heading-numbers .ensures in
-    let a = h .before .before .before .before .before .before .args in
-    line-written (a .table .now) (a .out .now) (a .i) (a .at) (heading-read _ (h .before .before .if1 .taken) (e .0)) (line-few headingForm _ (omega arith) (e .1)) (p .fill .ensures .0) (p .fill .ensures .1)
+    let s = h .before .before .before .before .before .before in
+    line-written (s .pre .0 .holding) (s .pre .1) (heading h) (s .args .out .now) (s .args .at) (p .fill .ensures .0) (p .fill .ensures .1)
 
 bus-numbers-requires : tie.Need-bus-numbers-requires
 unfolding at
@@ -36,18 +46,16 @@ bus-numbers-requires c κs =
 
 fill-requires-2 : tie.Need-fill-requires-2
 fill-requires-2 c κs =
-    let e = c .before .before .bus-numbers .ensures in
-    let few = line-few busForm _ (omega arith) (e .1) in
-    (omega (arith, ap length (e .0)), omega (arith, few, c .before .before .before .before .before .before .before .before .before .pre .2))
+    let v = c .before .before in
+    let s = v .before .before .before .before .before .before .before in
+    (omega (arith, ap length (v .bus-numbers .ensures)), line-room (s .pre .0 .holding) (s .pre .1) (bus v) (s .args .at) (s .pre .2))
 
 returns-2 : tie.Need-returns-2
 returns-2 c =
     let p = c .before .before in
-    let b = p .before .before .before in
-    let e = b .bus-numbers .ensures in
-    let a = b .before .before .before .before .before .before .before .args in
-    let z : a .i ≡ suc (a .i - 1) = omega (arith, b .before .before .before .if1 .left) in
-    line-written (a .table .now) (a .out .now) (a .i) (a .at) (bus-read _ z (e .0)) (line-few busForm _ (omega arith) (e .1)) (p .fill2 .ensures .0) (p .fill2 .ensures .1)
+    let v = p .before .before .before in
+    let s = v .before .before .before .before .before .before .before in
+    line-written (s .pre .0 .holding) (s .pre .1) (bus v) (s .args .out .now) (s .args .at) (p .fill2 .ensures .0) (p .fill2 .ensures .1)
 
 pub write-line-spec : {M : Type 1} → statement M
 write-line-spec =
