@@ -1,5 +1,5 @@
 -- What is printed once Read has answered. Assumes nothing.
-use mathlib.Core.List.{List}
+use mathlib.Core.List.{List, [], _∷_}
 use mathlib.Core.Path.{_≡_, sym, ap, _∙_}
 use Prim.Native.Nat.{ℕ, _≤_, _<_}
 use native.Mathlib.Omega.{arith}
@@ -15,10 +15,10 @@ use Rattle.reading.specs.Recorded.{stored-alike}
 use Rattle.whole_sheet.specs.Whole.{wholeSheet}
 use Rattle.whole_sheet.specs.Work.{longestLine}
 use Rattle.whole_sheet.specs.Same.{same-sheet}
-use Rattle.report.specs.Report.{refusedLine, sheetOr, printed}
+use Rattle.report.specs.Report.{refusedForm, refusedLine, sheetOr, printed}
 
 -- the line of a number of one byte is no longer than those of sheets
-pub refused-fits : (k : ℕ) → k < 256 → length (refusedLine k) ≤ longestLine
+pub refused-fits : (k : ℕ) → k < 256 → length (filled refusedForm (k ∷ [])) ≤ longestLine
 unfolding filled at
 refused-fits k h = simp length-append (omega (arith, decimal-few 2 k (omega arith)))
 

@@ -7,6 +7,7 @@ use native.Mathlib.Omega.{arith}
 use borrow.Author.Tests.{le-ltb}
 use lib.ListN.{length, length-append}
 use Rattle.lists.specs.Lists.{at}
+use Rattle.lists.specs.Below.{joinBelow}
 use Rattle.lists.specs.Loops.{sumBelow-next}
 use Rattle.lists.specs.Range.{sumBelow-le, sumBelow-rises, sumBelow-const, length-joinBelow}
 use Rattle.refusals.specs.Outcomes.{gives}
@@ -73,10 +74,13 @@ module _ {t : List ℕ} (w : Holds t) where
       )
   line-fits (suc v) b = bus-fits v (omega arith)
 
+  lines-fit : (m : ℕ) → m ≤ size t + 1 → length (joinBelow m (sheetLine t)) ≤ longestSheet
+  lines-fit m h =
+      omega (arith, length-joinBelow m (sheetLine t), sumBelow-le (λ i. length (sheetLine t i)) (λ i. longestLine) m (λ i b. line-fits i (omega arith)), sumBelow-const longestLine m, w .complete .most)
+
   -- EVERY SHEET FITS
   pub sheet-fits : length (wholeSheet t) ≤ longestSheet
-  sheet-fits =
-      omega (arith, length-joinBelow (size t + 1) (sheetLine t), sumBelow-le (λ i. length (sheetLine t i)) (λ i. longestLine) (size t + 1) (λ i b. line-fits i (omega arith)), sumBelow-const longestLine (size t + 1), w .complete .most)
+  sheet-fits = lines-fit _ (omega arith)
 
   -- so a call that is lent so many bytes is not refused for want of them
   pub never-short : (x : List ℕ) → longestSheet ≤ length x → sheetOutcome t (length x) ≡ gives (length (wholeSheet t))

@@ -1,18 +1,20 @@
 -- `report::write_refusal` meets its contract. Assumes nothing.
 use borrow.Author.Needs.{needs}
 use native.Mathlib.Omega.{arith}
+use mathlib.Core.List.{[], _∷_}
 use mathlib.Core.Path.{ap, _∙_}
 use Prim.Native.Nat.{_≤_}
 use lib.ListN.{length}
 use Rattle.lists.specs.Lists.{put}
-use Rattle.report.specs.Report.{refusedLine}
+use Rattle.text.specs.Text.{filled}
+use Rattle.report.specs.Report.{refusedForm, refusedLine}
 use Rattle.whole_sheet.specs.Work.{longestLine}
 use Rattle.report.specs.Printing.{refused-fits}
 use Rattle.report.proofs.write_refusal.Statement.{statement}
 use Rattle.report.proofs.write_refusal.Tie as tie
 
 -- the line of a number is short
-few : (c : tie.After-number) → length (refusedLine (c .number .result)) ≤ longestLine
+few : (c : tie.After-number) → length (filled refusedForm (c .number .result ∷ [])) ≤ longestLine
 few c = refused-fits (c .number .result) (omega arith)
 
 returns : tie.Need-returns

@@ -18,15 +18,15 @@ use Rattle.whole_sheet.proofs.whole.Tie as tie
 held : (c : tie.Else1) → holds (c .before .before .before .before .args .table .now) ≡ true
 held c = passed (c .before .holds .ensures) (c .if1 .left)
 
+write-sheet-requires : tie.Need-write-sheet-requires
+write-sheet-requires c κs = (holds-facts _ (held (c .before)), omega (arith, length-replicate {A = ℕ} longestSheet 0))
+
 -- the sheet was written aside
 aside : (c : tie.After-write-sheet) → take (c .write-sheet .result) (c .write-sheet .last .1 .0) ≡ wholeSheet (c .before .before .before .before .before .before .args .table .now)
 aside c = written-front _ (replicate longestSheet 0) (c .write-sheet .ensures .0 .0) (c .write-sheet .ensures .1)
 
 returns : tie.Need-returns
 returns c = no-network _ _ (failed (c .before .holds .ensures) (c .if1 .taken))
-
-write-sheet-requires : tie.Need-write-sheet-requires
-write-sheet-requires c κs = (holds-facts _ (held (c .before)), omega (arith, length-replicate {A = ℕ} longestSheet 0))
 
 slice-aggregate-place : tie.Need-slice-aggregate-place
 slice-aggregate-place c = let w = c .before .before in w .write-sheet .ensures .0 .0 ∙ sym (ap length (aside w))
