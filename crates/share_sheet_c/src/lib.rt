@@ -1,4 +1,4 @@
-// The library for C, and for languages that call C: each call of 01, on numbers, slices and lent places.
+// The library for C, and for languages that call C: each call of 01, the whole sheet and the sizes that are enough, on numbers, slices and lent places.
 // A call gives 0, or 01's number where it is refused. Values are handed back through lent places, which a refused call leaves as they were.
 ghost use mathlib.Core.Path.{_≡_};
 ghost use lib.ListN.{length};
