@@ -10,7 +10,7 @@ use Rattle.lists.specs.Tests.{split}
 use Rattle.refusals.specs.Outcomes.{Outcome, gives, refuses, outcome, valuesOr}
 use Rattle.tables.specs.Layout.{size, row}
 use Rattle.tables.specs.Holds.{holds}
-use Rattle.tables.specs.Answers.{busCauses, rowPlaceOutcome, RowStands}
+use Rattle.tables.specs.Answers.{busCauses, rowOutcome, rowPlaceOutcome, RowStands}
 use Rattle.tables.specs.Rows.{row-within, row-stands}
 use Rattle.tables.specs.Facts.{holds-facts}
 
@@ -26,16 +26,28 @@ module _ {A : Type 0} (t : List ℕ) (bus : ℕ) (values : A) where
     pub given : bus < n → outcome (busCauses t bus) values ≡ gives values
     given g = rw (h, lt-ltb bus (size t) (omega arith))
 
+-- what Row gives: the empty part where Degree refuses, and else the row
+module _ (t : List ℕ) (bus : ℕ) where
+  row-none : holds t ≡ false → rowOutcome t bus ≡ []
+  row-none h = ap (valuesOr []) (no-network t bus (row t bus) h)
+
+  row-missing : holds t ≡ true → size t ≤ bus → rowOutcome t bus ≡ []
+  row-missing h g = ap (valuesOr []) (no-bus t bus (row t bus) h refl g)
+
+  row-there : holds t ≡ true → bus < size t → rowOutcome t bus ≡ row t bus
+  row-there h b = ap (valuesOr []) (given t bus (row t bus) h refl b)
+
 -- THE ROW STANDS THERE: the place that is given for a row holds it, whatever the slice and the bus
 pub row-placed : (t : List ℕ) (bus : ℕ) → RowStands t bus (rowPlaceOutcome t bus)
 row-placed t bus =
     split (holds t)
     (λ h. split (ltb bus (size t))
     (λ g.
+    let w = holds-facts t h in
     let b = ltb-true bus (size t) g in
-    rw (h, g) (row-within t (holds-facts t h) bus b, row-stands t (holds-facts t h) bus b ∙ sym (ap (valuesOr []) (given t bus (row t bus) h refl b))))
-    (λ g. rw (h, g) (ap (valuesOr []) (no-bus t bus (row t bus) h refl (ltb-false bus (size t) g)))))
-    (λ h. rw h (ap (valuesOr []) (no-network t bus (row t bus) h)))
+    rw (h, g) (row-within t w bus b, row-stands t w bus b ∙ sym (row-there t bus h b)))
+    (λ g. rw (h, g) (row-missing t bus h (ltb-false bus (size t) g))))
+    (λ h. rw h (row-none t bus h))
 
 -- so a place that is answered as it is due holds the row
 pub placed : (t : List ℕ) (bus : ℕ) {o : Outcome (ℕ × ℕ)} → o ≡ rowPlaceOutcome t bus → (o ≡ rowPlaceOutcome t bus) × RowStands t bus o
