@@ -1,6 +1,6 @@
 # What the scripts that test commands share. Sourced at the top of the repository, with `limit` set to how many
 # seconds a command may take.
-# shellcheck shell=sh disable=SC2034 # some names are for the scripts alone
+# shellcheck shell=sh disable=SC2034,SC2154 # some names are for the scripts alone, and limit is theirs
 house=$(pwd)
 scratch=$(mktemp -d) || exit 1
 trap 'rm -rf "$scratch"' EXIT
