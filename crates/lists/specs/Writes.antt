@@ -6,9 +6,9 @@ use native.Mathlib.Nat.{le-refl, zero-add, add-zero, add-assoc, add-suc}
 use native.Mathlib.Numerals.{add-one}
 use native.Mathlib.Omega.{arith}
 use lib.ListN.{length, set, take, drop, length-append, length-take, length-drop, take-append-drop}
-use lib.Seq.{drop-cons, append-snoc, set-at, take-at, drop-at, drop-append-le, drop-append-add, drop-drop, length-take-le, take-set-le, drop-set-lt}
-use Rattle.lists.specs.Lists.{part, put}
-use Rattle.lists.specs.Places.{length-part, part-append}
+use lib.Seq.{drop-cons, append-snoc, set-at, take-at, drop-at, drop-append-le, drop-append-add, drop-drop, length-take-le, take-set-le, drop-set-lt, take-all}
+use Rattle.lists.specs.Lists.{at, part, put}
+use Rattle.lists.specs.Places.{length-part, part-append, take-next}
 
 -- what is written at the front, and behind it the rest as it was
 pub put-front : (t vs : List ℕ) → put t 0 vs ≡ vs ++ drop (length vs) t
@@ -94,6 +94,28 @@ module _ (t : List ℕ) (i : ℕ) (vs : List ℕ) {u : List ℕ} {j : ℕ} (w : 
 
   pub stored-list : (ws : List ℕ) → i ≤ length t → put u j ws ≡ put t i (vs ++ ws)
   stored-list ws h = ap₂ (λ l n. put l n ws) w e ∙ put-put t i vs ws h
+
+-- a loop that copies l into t from place i on: so far k of its entries stand in u
+abbrev pub Copied : List ℕ → ℕ → List ℕ → List ℕ → ℕ → Type 0
+Copied t i l u k = (k ≤ length l) × (u ≡ put t i (take k l))
+
+module _ (t : List ℕ) (i : ℕ) (l : List ℕ) where
+  pub copied-none : Copied t i l t 0
+  copied-none = (omega arith, sym (put-none t i))
+
+  module _ {u : List ℕ} {k : ℕ} (w : Copied t i l u k) where
+    next : i + k ≡ i + length (take k l)
+    next = ap (λ n. i + n) (sym (length-take-le k l (w .0)))
+
+    pub copied-length : i + length l ≤ length t → length u ≡ length t
+    copied-length h = stored-length t i (take k l) (w .1) next (omega (arith, w .0))
+
+    pub copied-entry : {j : ℕ} → j ≡ i + k → i + length l ≤ length t → k < length l → Copied t i l (set u j (at l k)) (k + 1)
+    copied-entry e h b =
+        (omega arith, stored-entry t i (take k l) (w .1) (e ∙ next) (at l k) (omega arith) ∙ ap (put t i) (sym (take-next k l b)))
+
+    pub copied-all : length l ≤ k → u ≡ put t i l
+    copied-all h = w .1 ∙ ap (put t i) (take-all k l h)
 
 -- what is written at the front of a part stands in the whole from the part's start on
 pub put-part : (t : List ℕ) (a e : ℕ) (vs : List ℕ) → e ≤ length t → length vs ≤ e - a

@@ -1,6 +1,5 @@
 -- Text: definitions, computed examples, then laws.
 pub mod Text
 pub mod Examples
-pub mod Words
 pub mod Decimal
 pub mod Filled

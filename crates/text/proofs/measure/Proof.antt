@@ -49,7 +49,7 @@ few : (v : tie.At-loop Inv-loop μ-loop) → let a = v .before .before .before .
 unfolding at
 few v =
     let a = v .before .before .before .args in
-    omega (arith, filled-few (a .template .now) (a .values .now) (record { each = λ k. omega (arith, v .before .shared-slice-known2 .given k) }), count-few sign (a .template .now))
+    omega (arith, filled-few (a .template .now) (a .values .now) (λ k. omega (arith, v .before .shared-slice-known2 .given k)), count-few sign (a .template .now))
 
 add-bytes : tie.Need-add-bytes Inv-loop μ-loop
 unfolding at
