@@ -12,7 +12,8 @@ use Rattle.format.specs.Bytes.{wordAt, needBytes, records}
 use Rattle.format.specs.Sections.{endsBefore, goesOn, twoBuses, soundEnds}
 use Rattle.records.specs.Records.{names, joins, joined, neighbours, crowded, repeats, repeated}
 use Rattle.reading.specs.Read.{fileTable, storedTable}
-use Rattle.formula.specs.Formula.{largestDegree, denominator, ownOf, neighbourOf, numerator}
+use Rattle.formula.specs.Formula.{numeratorOver}
+use Rattle.formula.specs.Tables.{largestDegree, divisorsOf}
 use Rattle.shares.specs.Answers.{storedNumerators}
 use Rattle.bench_cases.specs.Starred.{lentTable, lentNumerators, sharesOf, answered, file, path, triangle, starred}
 
@@ -23,5 +24,5 @@ path-bytes = refl
 
 -- of every row: what the calls' definitions answer is what is due
 pub starred-hold : map (λ c. answered (c .asked)) starred ≡ map (λ c. c .due) starred
-unfolding starred answered sharesOf lentTable lentNumerators path triangle file flatMap cancelOutcome storedNumerators numerator ownOf neighbourOf ownTerm neighbourTerm denominator largestDegree largestBelow lcmAll lcmOf gcdOf mapBelow joinBelow listBelow storedTable fileTable tableOf laid neighbours needBytes records wordAt endsBefore goesOn soundEnds twoBuses crowded names repeated repeats joined joins holds twoWay complete within fairNeeds soundRows neverFall shortRows tidyRows tidyRow tidy mirrored rowAt needs starts links row at allBelow anyBelow sumBelow
+unfolding starred answered sharesOf lentTable lentNumerators path triangle file flatMap cancelOutcome storedNumerators numeratorOver ownTerm neighbourTerm divisorsOf largestDegree largestBelow lcmAll lcmOf gcdOf mapBelow joinBelow listBelow storedTable fileTable tableOf laid neighbours needBytes records wordAt endsBefore goesOn soundEnds twoBuses crowded names repeated repeats joined joins holds twoWay complete within fairNeeds soundRows neverFall shortRows tidyRows tidyRow tidy mirrored rowAt needs starts links row at allBelow anyBelow sumBelow
 starred-hold = refl

@@ -6,6 +6,7 @@ use lib.ListN.{length, take, replicate}
 use Rattle.refusals.specs.Outcomes.{Outcome, gives, refuses}
 use Rattle.fraction.specs.Cancel.{cancelOutcome}
 use Rattle.reading.specs.Read.{readOutcome, tableAfter}
+use Rattle.two_way.specs.TwoWay.{networkOf}
 use Rattle.shares.specs.Answers.{sharesOutcome, numeratorsAfter}
 
 -- ---- what a case asks, and what the definitions of the calls answer
@@ -37,7 +38,7 @@ lentNumerators = replicate 3 0
 
 -- Shares of a table with n buses: the n numerators that it stores, over the L that it gives
 unfoldable pub sharesOf : List ℕ → ℕ → Answer
-sharesOf t n = andThen (sharesOutcome t (length lentNumerators)) (λ L. take n (numeratorsAfter t lentNumerators) over L)
+sharesOf t n = andThen (sharesOutcome (networkOf t) (length lentNumerators)) (λ L. take n (numeratorsAfter (networkOf t) lentNumerators) over L)
 
 -- Read and then Shares; or Cancel
 unfoldable pub answered : Asked → Answer

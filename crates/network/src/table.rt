@@ -3,7 +3,7 @@ ghost use mathlib.Core.Path.{_≡_};
 ghost use Prim.Native.Nat.{_+_, _≤_, _<_};
 ghost use lib.ListN.{length};
 ghost use Rattle.tables.specs.Layout.{size, needs, starts, links, startsAt, row, rowStart, lines};
-ghost use Rattle.tables.specs.Holds.{Complete, Holds};
+ghost use Rattle.tables.specs.Holds.{Complete, Scorable, Holds};
 use super::rows::entry;
 use super::rows::row_at;
 
@@ -54,7 +54,7 @@ pub fn links(table: &[u16], h: usize) -> &[u16]
 
 // The neighbours of a bus.
 pub fn neighbours(table: &[u16], bus: usize) -> &[u16]
-    requires { ⌜ Holds (now table) × (bus < size (now table)) ⌝ }
+    requires { ⌜ Scorable (now table) × (bus < size (now table)) ⌝ }
     ensures { λ r. ⌜ now r ≡ row (now (table .entry)) bus ⌝ }
 {
     let h = starts_at(table);
@@ -63,7 +63,7 @@ pub fn neighbours(table: &[u16], bus: usize) -> &[u16]
 
 // Where the neighbours of a bus begin in the table.
 pub fn row_start(table: &[u16], bus: usize) -> usize
-    requires { ⌜ Holds (now table) × (bus < size (now table)) ⌝ }
+    requires { ⌜ Scorable (now table) × (bus < size (now table)) ⌝ }
     ensures { λ r. ⌜ r ≡ rowStart (now (table .entry)) bus ⌝ }
 {
     let h = starts_at(table);

@@ -9,7 +9,8 @@ use Rattle.fraction.specs.Divisors.{gcdOf, lcmOf, lcmAll}
 use Rattle.game.specs.Game.{ownTerm, neighbourTerm}
 use Rattle.tables.specs.Layout.{rowAt, laid, needs, starts, links, row, lines, tableOf}
 use Rattle.tables.specs.Holds.{within, fairNeeds}
-use Rattle.formula.specs.Formula.{largestDegree, denominator, ownOf, neighbourOf, numerator}
+use Rattle.formula.specs.Formula.{numeratorOver}
+use Rattle.formula.specs.Tables.{largestDegree, divisorsOf}
 use Rattle.format.specs.Bytes.{wordAt, needBytes, records}
 use Rattle.format.specs.Sections.{endsBefore, goesOn, twoBuses, soundEnds}
 use Rattle.records.specs.Records.{names, joins, joined, neighbours, crowded, repeats, repeated}
@@ -23,12 +24,12 @@ path = 3 ∷ 0 ∷ 1 ∷ 1 ∷ 1 ∷ 2 ∷ 0 ∷ 0 ∷ 0 ∷ 1 ∷ 0 ∷ 1 ∷ 0
 path-printed :
     printed path
     ≡ 98 ∷ 117 ∷ 115 ∷ 101 ∷ 115 ∷ 32 ∷ 51 ∷ 32 ∷ 108 ∷ 105 ∷ 110 ∷ 101 ∷ 115 ∷ 32 ∷ 50 ∷ 32 ∷ 111 ∷ 118 ∷ 101 ∷ 114 ∷ 32 ∷ 54 ∷ 10 ∷ 48 ∷ 32 ∷ 49 ∷ 32 ∷ 49 ∷ 32 ∷ 53 ∷ 32 ∷ 53 ∷ 47 ∷ 54 ∷ 10 ∷ 49 ∷ 32 ∷ 49 ∷ 32 ∷ 50 ∷ 32 ∷ 56 ∷ 32 ∷ 52 ∷ 47 ∷ 51 ∷ 10 ∷ 50 ∷ 32 ∷ 49 ∷ 32 ∷ 49 ∷ 32 ∷ 53 ∷ 32 ∷ 53 ∷ 47 ∷ 54 ∷ 10 ∷ []
-unfolding needBytes records wordAt endsBefore goesOn within fairNeeds allBelow anyBelow sumBelow soundEnds twoBuses crowded names repeated repeats joined joins path fileTable tableOf laid neighbours listBelow joinBelow mapBelow filled decimal numerator ownOf neighbourOf ownTerm neighbourTerm denominator largestDegree largestBelow lcmAll lcmOf gcdOf lines rowAt needs starts links row at
+unfolding needBytes records wordAt endsBefore goesOn within fairNeeds allBelow anyBelow sumBelow soundEnds twoBuses crowded names repeated repeats joined joins path fileTable tableOf laid neighbours listBelow joinBelow mapBelow filled decimal numeratorOver ownTerm neighbourTerm divisorsOf largestDegree largestBelow lcmAll lcmOf gcdOf lines rowAt needs starts links row at
 path-printed = refl
 
 -- `refused 1` for an empty file, `refused 5` for Path with one byte more
 refused :
     (printed [] ≡ 114 ∷ 101 ∷ 102 ∷ 117 ∷ 115 ∷ 101 ∷ 100 ∷ 32 ∷ 49 ∷ 10 ∷ [])
     × (printed (path ++ (0 ∷ [])) ≡ 114 ∷ 101 ∷ 102 ∷ 117 ∷ 115 ∷ 101 ∷ 100 ∷ 32 ∷ 53 ∷ 10 ∷ [])
-unfolding needBytes records wordAt endsBefore goesOn within fairNeeds allBelow anyBelow sumBelow soundEnds twoBuses crowded names repeated repeats joined joins path fileTable tableOf laid neighbours listBelow joinBelow mapBelow filled decimal numerator ownOf neighbourOf ownTerm neighbourTerm denominator largestDegree largestBelow lcmAll lcmOf gcdOf lines rowAt needs starts links row at
+unfolding needBytes records wordAt endsBefore goesOn within fairNeeds allBelow anyBelow sumBelow soundEnds twoBuses crowded names repeated repeats joined joins path fileTable tableOf laid neighbours listBelow joinBelow mapBelow filled decimal numeratorOver ownTerm neighbourTerm divisorsOf largestDegree largestBelow lcmAll lcmOf gcdOf lines rowAt needs starts links row at
 refused = (refl, refl)

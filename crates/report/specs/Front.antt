@@ -6,6 +6,7 @@ use lib.ListN.{take}
 use Rattle.tables.specs.Limits.{maxBytes, maxEntries}
 use Rattle.reading.specs.Read.{fileTable}
 use Rattle.reading.specs.Front.{long-refused, front-refused, by-front}
+use Rattle.two_way.specs.TwoWay.{networkOf}
 use Rattle.whole_sheet.specs.Whole.{wholeSheet}
 use Rattle.report.specs.Report.{sheetOr, printed}
 
@@ -13,5 +14,5 @@ use Rattle.report.specs.Report.{sheetOr, printed}
 pub front-printed : (f : List ℕ) → printed (take (maxBytes + 1) f) ≡ printed f
 front-printed =
     by-front printed λ f l.
-    ap (λ o. sheetOr o (wholeSheet (fileTable (take (maxBytes + 1) f)))) (front-refused f l maxEntries)
-    ∙ sym (ap (λ o. sheetOr o (wholeSheet (fileTable f))) (long-refused f maxEntries l))
+    ap (λ o. sheetOr o (wholeSheet (networkOf (fileTable (take (maxBytes + 1) f))))) (front-refused f l maxEntries)
+    ∙ sym (ap (λ o. sheetOr o (wholeSheet (networkOf (fileTable f)))) (long-refused f maxEntries l))

@@ -12,9 +12,10 @@ use Rattle.tables.specs.Limits.{maxEntries}
 use Rattle.format.specs.declared.Counts.{Counts}
 use Rattle.reading.specs.Read.{readOutcome, fileTable, tableAfter}
 use Rattle.reading.specs.Recorded.{stored-alike}
+use Rattle.two_way.specs.TwoWay.{networkOf}
+use Rattle.two_way.specs.Same.{same-network}
 use Rattle.whole_sheet.specs.Whole.{wholeSheet}
 use Rattle.whole_sheet.specs.Work.{longestLine}
-use Rattle.whole_sheet.specs.Same.{same-sheet}
 use Rattle.report.specs.Report.{refusedForm, refusedLine, sheetOr, printed}
 
 -- the line of a number of one byte is no longer than those of sheets
@@ -24,8 +25,8 @@ refused-fits k h = simp length-append (omega (arith, decimal-few 2 k (omega arit
 
 -- Read was lent x, which has room for any table
 module _ (f x : List ℕ) (room : length x ≡ maxEntries) where
-  pub print-sheet : {c : Counts} → readOutcome f (length x) ≡ gives c → wholeSheet (tableAfter f x) ≡ printed f
-  print-sheet e = same-sheet (stored-alike f x e) ∙ sym (ap (λ o. sheetOr o (wholeSheet (fileTable f))) (rw room at e))
+  pub print-sheet : {c : Counts} → readOutcome f (length x) ≡ gives c → wholeSheet (networkOf (tableAfter f x)) ≡ printed f
+  print-sheet e = ap wholeSheet (same-network (stored-alike f x e)) ∙ sym (ap (λ o. sheetOr o (wholeSheet (networkOf (fileTable f)))) (rw room at e))
 
   pub print-refusal : {k : ℕ} → readOutcome f (length x) ≡ refuses k → refusedLine k ≡ printed f
-  print-refusal e = sym (ap (λ o. sheetOr o (wholeSheet (fileTable f))) (rw room at e))
+  print-refusal e = sym (ap (λ o. sheetOr o (wholeSheet (networkOf (fileTable f)))) (rw room at e))

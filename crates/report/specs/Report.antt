@@ -5,6 +5,7 @@ use Rattle.refusals.specs.Outcomes.{Outcome, gives, refuses}
 use Rattle.text.specs.Text.{filled}
 use Rattle.tables.specs.Limits.{maxEntries}
 use Rattle.reading.specs.Read.{readOutcome, fileTable}
+use Rattle.two_way.specs.TwoWay.{networkOf}
 use Rattle.whole_sheet.specs.Whole.{wholeSheet}
 
 -- `refused #`, ended by byte 10
@@ -21,4 +22,4 @@ sheetOr (refuses number) sheet = refusedLine number
 
 -- the sheet of the file's network, or why Read refuses the file; the slice that Read is lent has room for any table
 abbrev pub printed : List ℕ → List ℕ
-printed f = sheetOr (readOutcome f maxEntries) (wholeSheet (fileTable f))
+printed f = sheetOr (readOutcome f maxEntries) (wholeSheet (networkOf (fileTable f)))

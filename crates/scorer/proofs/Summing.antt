@@ -2,70 +2,82 @@
 use mathlib.Core.List.{List}
 use mathlib.Core.Path.{_≡_, ap, _∙_}
 use Prim.Native.Nat.{ℕ, _+_, _-_, _*_, _≤_, _<_}
-use native.Mathlib.Nat.{mul-le-mul}
+use native.Mathlib.Nat.{one-mul, mul-le-mul}
 use native.Mathlib.Omega.{arith}
 use lib.ListN.{length, take}
 use lib.Seq.{take-all, length-take-le}
 use Rattle.lists.specs.Lists.{sumBy, at}
 use Rattle.lists.specs.Loops.{sumBy-take-next}
 use Rattle.lists.specs.Places.{in-at}
+use Rattle.lists.specs.Sums.{sumBy-const, sumBy-le}
+use Rattle.game.specs.Game.{own, neighbour}
 use Rattle.tables.specs.Limits.{maxDegree}
-use Rattle.tables.specs.Layout.{size, row}
-use Rattle.tables.specs.Holds.{Holds}
-use Rattle.formula.specs.Formula.{denominator, ownOf, neighbourOf, numerator}
-use Rattle.formula.specs.Denominator.{maxDenominator, degree-few, denominator-most}
-use Rattle.formula.specs.Terms.{neighbour-most, neighbours-most, own-rest}
-use Rattle.formula.specs.Fair.{neighbour-below}
+use Rattle.tables.specs.Layout.{size, row, need, degree}
+use Rattle.tables.specs.Holds.{Scorable}
+use Rattle.tables.specs.Rows.{tidy-below}
+use Rattle.formula.specs.Tables.{gameOf, maxDenominator, Over}
+use Rattle.formula.specs.Formula.{numeratorOver}
+use Rattle.formula.specs.Terms.{term-most, own-rest}
+use Rattle.formula.specs.Played.{tidy, degree-few, term-whole}
+use Rattle.two_way.specs.TwoWay.{networkOf}
 
 -- the own term, and the terms of the first k neighbours
-unfoldable pub summed : List ℕ → ℕ → ℕ → ℕ
-summed t bus k = ownOf t bus + sumBy (neighbourOf t) (take k (row t bus))
+unfoldable pub summed : List ℕ → ℕ → ℕ → ℕ → ℕ
+summed t L bus k = own (gameOf t) L bus + sumBy (neighbour (gameOf t) L) (take k (row t bus))
 
 -- no sum of them is above this, which is far below 2 ^ 64
 abbrev pub most : ℕ
 most = (2 + maxDegree) * maxDenominator
 
--- the row r of a bus, as code has it
-module _ {t : List ℕ} (w : Holds t) {bus : ℕ} {r : List ℕ} (b : bus < size t) (er : r ≡ row t bus) where
-  -- L, and x, which the bus gives to each neighbour
-  module _ {over x : ℕ} (eo : over ≡ denominator t) (ex : x ≡ neighbourOf t bus) where
-    rest : ownOf t bus + length r * x ≡ over
-    rest = rw (ex, er, eo) (own-rest w bus b)
+neighbour-most : (t : List ℕ) (L u : ℕ) → neighbour (gameOf t) L u ≤ L
+neighbour-most t L u = omega (arith, term-most (need t u) (degree t u) L)
 
-    pub rest-fits : length r * x ≤ over
+-- the row r of a bus, as code has it
+module _ {t : List ℕ} (w : Scorable t) {L : ℕ} (o : Over t L) {bus : ℕ} {r : List ℕ} (b : bus < size t) (er : r ≡ row t bus) where
+  all : own (gameOf t) L bus + length r * neighbour (gameOf t) L bus ≡ L
+  all = rw er (own-rest (gameOf t) L bus (term-whole w o bus b) ∙ one-mul L)
+
+  -- x, which the bus gives to each neighbour
+  module _ {x : ℕ} (ex : x ≡ neighbour (gameOf t) L bus) where
+    rest : own (gameOf t) L bus + length r * x ≡ L
+    rest = rw ex all
+
+    pub rest-fits : length r * x ≤ L
     rest-fits = omega (arith, rest)
 
-    pub sum-start : over - length r * x ≡ summed t bus 0
+    pub sum-start : L - length r * x ≡ summed t L bus 0
     unfolding summed
     sum-start = omega (arith, rest)
 
-  pub sum-end : {sum k : ℕ} → sum ≡ summed t bus k → length r ≤ k → sum ≡ numerator t bus
-  unfolding summed numerator
-  sum-end e l = e ∙ ap (λ r. ownOf t bus + sumBy (neighbourOf t) r) (take-all _ _ (rw er at l))
+  pub sum-end : {sum k : ℕ} → sum ≡ summed t L bus k → length r ≤ k → sum ≡ numeratorOver (networkOf t) L bus
+  unfolding summed numeratorOver
+  sum-end e l = e ∙ ap (λ r. own (gameOf t) L bus + sumBy (neighbour (gameOf t) L) r) (take-all _ _ (rw er at l))
 
   -- neighbour k is bus j
   module _ {k j : ℕ} (l : k < length r) (ej : j ≡ at r k) where
     pub neighbour-in : j < size t
-    neighbour-in = neighbour-below w bus b j (rw (ej, er) (in-at (row t bus) k (rw er at l)))
+    neighbour-in = tidy-below (tidy w bus b) j (rw (ej, er) (in-at (row t bus) k (rw er at l)))
 
     -- and x what it gives
-    module _ {sum x : ℕ} (e : sum ≡ summed t bus k) (ex : x ≡ neighbourOf t j) where
-      pub sum-next : sum + x ≡ summed t bus (k + 1)
+    module _ {sum x : ℕ} (e : sum ≡ summed t L bus k) (ex : x ≡ neighbour (gameOf t) L j) where
+      pub sum-next : sum + x ≡ summed t L bus (k + 1)
       unfolding summed
       sum-next =
-          omega (arith, e, ex, ap (neighbourOf t) (ej ∙ ap (λ r. at r k) er), sumBy-take-next (neighbourOf t) (row t bus) k (rw er at l))
+          omega (arith, e, ex, ap (neighbour (gameOf t) L) (ej ∙ ap (λ r. at r k) er), sumBy-take-next (neighbour (gameOf t) L) (row t bus) k (rw er at l))
 
       pub sum-fits : sum + x ≤ most
       unfolding summed
       sum-fits =
+          let first = take k (row t bus) in
           omega (
             arith,
             e,
             ex,
-            neighbour-most t j,
-            neighbours-most t (take k (row t bus)),
-            denominator-most w,
-            own-rest w bus b,
-            mul-le-mul {n₁ = length (take k (row t bus))} {m₁ = denominator t} {n₂ = maxDegree} {m₂ = maxDenominator}
-                (omega (arith, length-take-le k (row t bus) (omega (arith, ap length er)), ap length er, degree-few w bus b)) (denominator-most w),
+            neighbour-most t L j,
+            sumBy-le (neighbour-most t L) first,
+            sumBy-const L first,
+            o .few,
+            all,
+            mul-le-mul {n₁ = length first} {m₁ = L} {n₂ = maxDegree} {m₂ = maxDenominator}
+                (omega (arith, length-take-le k (row t bus) (omega (arith, ap length er)), ap length er, degree-few w bus b)) (o .few),
           )

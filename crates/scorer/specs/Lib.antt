@@ -1,2 +1,3 @@
--- What answers of Shares and Share stand for.
+-- What answers of Shares and Share stand for, and computed examples.
 pub mod Answers
+pub mod Examples

@@ -5,8 +5,13 @@ ghost use lib.ListN.{length};
 ghost use Rattle.lists.specs.Lists.{Tabled, put};
 ghost use Rattle.lists.specs.Below.{mapBelow};
 ghost use Rattle.tables.specs.Layout.{size};
-ghost use Rattle.tables.specs.Holds.{Holds};
-ghost use Rattle.formula.specs.Formula.{denominator, neighbourOf, numerator};
+ghost use Rattle.tables.specs.Holds.{Scorable};
+ghost use Rattle.game.specs.Game.{neighbour};
+ghost use Rattle.formula.specs.Network.{denominator};
+ghost use Rattle.formula.specs.Tables.{gameOf, Over};
+ghost use Rattle.formula.specs.Formula.{numeratorOver};
+ghost use Rattle.formula.specs.Formula.{numerator as Formula·numerator};
+ghost use Rattle.two_way.specs.TwoWay.{networkOf};
 ghost use Rattle.terms.specs.Unit.{degrees, unit};
 ghost use Rattle.shares.specs.Answers.{sharesOutcome, numeratorsAfter, AllFair, shareOutcome, OneFair};
 ghost use Rattle.scorer.specs.Answers.{sharesSays, shareSays};
@@ -36,16 +41,16 @@ pub enum OneShare {
 
 // The numerator of one bus: what its neighbours leave it of its own L, which is its own term, and what they give it.
 pub fn numerator(table: &[u16], over: u64, units: &[u64; Degrees::ALL], bus: usize) -> u64
-    requires { ⌜ Holds (now table) × (bus < size (now table)) × (over ≡ denominator (now table)) ⌝ }
-    requires { ⌜ Tabled degrees (unit (denominator (now table))) (now units) ⌝ }
-    ensures { λ r. ⌜ r ≡ numerator (now (table .entry)) bus ⌝ }
+    requires { ⌜ Scorable (now table) × (bus < size (now table)) × Over (now table) over ⌝ }
+    requires { ⌜ Tabled degrees (unit over) (now units) ⌝ }
+    ensures { λ r. ⌜ r ≡ numeratorOver (networkOf (now (table .entry))) over bus ⌝ }
 {
     let row = neighbours(table, bus);
-    let mut sum = over - (row.len() as u64) * term(table, units, bus);
+    let mut sum = over - (row.len() as u64) * term(table, over, units, bus);
     let mut k = 0;
     while k < row.len() {
         let neighbour = entry(row, k);
-        sum += term(table, units, neighbour);
+        sum += term(table, over, units, neighbour);
         k += 1;
     }
     sum
@@ -53,9 +58,9 @@ pub fn numerator(table: &[u16], over: u64, units: &[u64; Degrees::ALL], bus: usi
 
 // The same from the terms of all buses, so that none is found again for each neighbour.
 fn gathered(table: &[u16], over: u64, terms: &[u64; Network::BUSES], bus: usize) -> u64
-    requires { ⌜ Holds (now table) × (bus < size (now table)) × (over ≡ denominator (now table)) ⌝ }
-    requires { ⌜ Tabled (size (now table)) (neighbourOf (now table)) (now terms) ⌝ }
-    ensures { λ r. ⌜ r ≡ numerator (now (table .entry)) bus ⌝ }
+    requires { ⌜ Scorable (now table) × (bus < size (now table)) × Over (now table) over ⌝ }
+    requires { ⌜ Tabled (size (now table)) (neighbour (gameOf (now table)) over) (now terms) ⌝ }
+    ensures { λ r. ⌜ r ≡ numeratorOver (networkOf (now (table .entry))) over bus ⌝ }
 {
     let row = neighbours(table, bus);
     let mut sum = over - (row.len() as u64) * terms[bus];
@@ -70,9 +75,9 @@ fn gathered(table: &[u16], over: u64, terms: &[u64; Network::BUSES], bus: usize)
 
 // Stores the numerator of each bus at its entry.
 fn store(table: &[u16], over: u64, terms: &[u64; Network::BUSES], numerators: &mut [u64])
-    requires { ⌜ Holds (now table) × (size (now table) ≤ length (now numerators)) × (over ≡ denominator (now table)) ⌝ }
-    requires { ⌜ Tabled (size (now table)) (neighbourOf (now table)) (now terms) ⌝ }
-    ensures { λ _. ⌜ now (numerators .exit) ≡ put (now (numerators .entry)) 0 (mapBelow (size (now (table .entry))) (numerator (now (table .entry)))) ⌝ }
+    requires { ⌜ Scorable (now table) × (size (now table) ≤ length (now numerators)) × Over (now table) over ⌝ }
+    requires { ⌜ Tabled (size (now table)) (neighbour (gameOf (now table)) over) (now terms) ⌝ }
+    ensures { λ _. ⌜ now (numerators .exit) ≡ put (now (numerators .entry)) 0 (mapBelow (size (now (table .entry))) (numeratorOver (networkOf (now (table .entry))) over)) ⌝ }
 {
     let n = size(table);
     let mut bus = 0;
@@ -82,25 +87,33 @@ fn store(table: &[u16], over: u64, terms: &[u64; Network::BUSES], numerators: &m
     }
 }
 
-// Stores the numerators of all buses, and gives L.
-pub fn score(table: &[u16], numerators: &mut [u64]) -> u64
-    requires { ⌜ Holds (now table) × (size (now table) ≤ length (now numerators)) ⌝ }
-    ensures { λ r. ⌜ r ≡ denominator (now (table .entry)) ⌝ }
-    ensures { λ _. ⌜ now (numerators .exit) ≡ put (now (numerators .entry)) 0 (mapBelow (size (now (table .entry))) (numerator (now (table .entry)))) ⌝ }
+// Stores the numerators of all buses over any L that makes their terms whole.
+pub fn score_over(table: &[u16], over: u64, numerators: &mut [u64])
+    requires { ⌜ Scorable (now table) × (size (now table) ≤ length (now numerators)) × Over (now table) over ⌝ }
+    ensures { λ _. ⌜ now (numerators .exit) ≡ put (now (numerators .entry)) 0 (mapBelow (size (now (table .entry))) (numeratorOver (networkOf (now (table .entry))) over)) ⌝ }
 {
-    let over = denominator(table);
     let units = units(over);
     let mut terms = [0u64; Network::BUSES];
-    fill(table, &units, &mut terms);
+    fill(table, over, &units, &mut terms);
     store(table, over, &terms, numerators);
+}
+
+// Stores the numerators of all buses over the network's own L, which it gives.
+pub fn score(table: &[u16], numerators: &mut [u64]) -> u64
+    requires { ⌜ Scorable (now table) × (size (now table) ≤ length (now numerators)) ⌝ }
+    ensures { λ r. ⌜ r ≡ denominator (networkOf (now (table .entry))) ⌝ }
+    ensures { λ _. ⌜ now (numerators .exit) ≡ put (now (numerators .entry)) 0 (mapBelow (size (now (table .entry))) (Formula·numerator (networkOf (now (table .entry))))) ⌝ }
+{
+    let over = denominator(table);
+    score_over(table, over, numerators);
     over
 }
 
 // The shares of all buses: the numerators are stored, and what they are over is given.
 pub fn shares(table: &[u16], numerators: &mut [u64]) -> AllShares
-    ensures answer { λ r. ⌜ sharesSays r ≡ sharesOutcome (now (table .entry)) (length (now (numerators .entry))) ⌝ }
-    ensures stored { λ _. ⌜ now (numerators .exit) ≡ numeratorsAfter (now (table .entry)) (now (numerators .entry)) ⌝ }
-    ensures fair { λ r. ⌜ AllFair (now (table .entry)) (length (now (numerators .entry))) (sharesSays r) (now (numerators .exit)) ⌝ }
+    ensures answer { λ r. ⌜ sharesSays r ≡ sharesOutcome (networkOf (now (table .entry))) (length (now (numerators .entry))) ⌝ }
+    ensures stored { λ _. ⌜ now (numerators .exit) ≡ numeratorsAfter (networkOf (now (table .entry))) (now (numerators .entry)) ⌝ }
+    ensures fair { λ r. ⌜ AllFair (networkOf (now (table .entry))) (length (now (numerators .entry))) (sharesSays r) (now (numerators .exit)) ⌝ }
 {
     if !holds(table) {
         return AllShares::Refused(Refusal::NoNetwork);
@@ -114,8 +127,8 @@ pub fn shares(table: &[u16], numerators: &mut [u64]) -> AllShares
 
 // The share of one bus: its numerator, and what it is over.
 pub fn share(table: &[u16], bus: usize) -> OneShare
-    ensures answer { λ r. ⌜ shareSays r ≡ shareOutcome (now (table .entry)) bus ⌝ }
-    ensures fair { λ r. ⌜ OneFair (now (table .entry)) bus (shareSays r) ⌝ }
+    ensures answer { λ r. ⌜ shareSays r ≡ shareOutcome (networkOf (now (table .entry))) bus ⌝ }
+    ensures fair { λ r. ⌜ OneFair (networkOf (now (table .entry))) bus (shareSays r) ⌝ }
 {
     if !holds(table) {
         return OneShare::Refused(Refusal::NoNetwork);

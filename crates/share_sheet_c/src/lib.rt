@@ -5,6 +5,7 @@ ghost use lib.ListN.{length};
 ghost use Rattle.tables.specs.Limits.{maxBuses, maxEntries, maxBytes};
 ghost use Rattle.tables.specs.Answers.{degreeOutcome, rowPlaceOutcome, RowStands};
 ghost use Rattle.reading.specs.Read.{readOutcome, tableAfter};
+ghost use Rattle.two_way.specs.TwoWay.{networkOf};
 ghost use Rattle.shares.specs.Answers.{sharesOutcome, numeratorsAfter, AllFair, shareOutcome, OneFair};
 ghost use Rattle.fraction.specs.Cancel.{cancelOutcome, CancelRule};
 ghost use Rattle.sheet.specs.Answers.{lineOutcome, lineAfter};
@@ -80,9 +81,9 @@ pub extern "C" fn share_sheet_row(
 // Stores the numerators of all buses, and gives L.
 #[no_mangle]
 pub extern "C" fn share_sheet_shares(table: &[u16], numerators: &mut [u64], over: &mut u64) -> u8
-    ensures answer { λ r. ⌜ Tells (sharesOutcome (now (table .entry)) (length (now (numerators .entry)))) (now (over .entry)) r (now (over .exit)) ⌝ }
-    ensures stored { λ _. ⌜ now (numerators .exit) ≡ numeratorsAfter (now (table .entry)) (now (numerators .entry)) ⌝ }
-    ensures fair { λ r. ⌜ AllFair (now (table .entry)) (length (now (numerators .entry))) (told r (now (over .exit))) (now (numerators .exit)) ⌝ }
+    ensures answer { λ r. ⌜ Tells (sharesOutcome (networkOf (now (table .entry))) (length (now (numerators .entry)))) (now (over .entry)) r (now (over .exit)) ⌝ }
+    ensures stored { λ _. ⌜ now (numerators .exit) ≡ numeratorsAfter (networkOf (now (table .entry))) (now (numerators .entry)) ⌝ }
+    ensures fair { λ r. ⌜ AllFair (networkOf (now (table .entry))) (length (now (numerators .entry))) (told r (now (over .exit))) (now (numerators .exit)) ⌝ }
 {
     match scorer::shares(table, numerators) {
         AllShares::Refused(cause) => cause.number(),
@@ -101,8 +102,8 @@ pub extern "C" fn share_sheet_share(
     numerator: &mut u64,
     over: &mut u64,
 ) -> u8
-    ensures answer { λ r. ⌜ Tells (shareOutcome (now (table .entry)) bus) (now (numerator .entry), now (over .entry)) r (now (numerator .exit), now (over .exit)) ⌝ }
-    ensures fair { λ r. ⌜ OneFair (now (table .entry)) bus (told r (now (numerator .exit), now (over .exit))) ⌝ }
+    ensures answer { λ r. ⌜ Tells (shareOutcome (networkOf (now (table .entry))) bus) (now (numerator .entry), now (over .entry)) r (now (numerator .exit), now (over .exit)) ⌝ }
+    ensures fair { λ r. ⌜ OneFair (networkOf (now (table .entry))) bus (told r (now (numerator .exit), now (over .exit))) ⌝ }
 {
     match scorer::share(table, bus) {
         OneShare::Refused(cause) => cause.number(),
@@ -143,8 +144,8 @@ pub extern "C" fn share_sheet_line(
     text: &mut [u8],
     bytes: &mut usize,
 ) -> u8
-    ensures answer { λ r. ⌜ Tells (lineOutcome (now (table .entry)) line (length (now (text .entry)))) (now (bytes .entry)) r (now (bytes .exit)) ⌝ }
-    ensures written { λ _. ⌜ now (text .exit) ≡ lineAfter (now (table .entry)) line (now (text .entry)) ⌝ }
+    ensures answer { λ r. ⌜ Tells (lineOutcome (networkOf (now (table .entry))) line (length (now (text .entry)))) (now (bytes .entry)) r (now (bytes .exit)) ⌝ }
+    ensures written { λ _. ⌜ now (text .exit) ≡ lineAfter (networkOf (now (table .entry))) line (now (text .entry)) ⌝ }
 {
     match sheet::line(table, line, text) {
         Written::Refused(cause) => cause.number(),
@@ -158,8 +159,8 @@ pub extern "C" fn share_sheet_line(
 // Writes the whole sheet at the front of a lent text, and gives its byte count.
 #[no_mangle]
 pub extern "C" fn share_sheet_whole(table: &[u16], text: &mut [u8], bytes: &mut usize) -> u8
-    ensures answer { λ r. ⌜ Tells (sheetOutcome (now (table .entry)) (length (now (text .entry)))) (now (bytes .entry)) r (now (bytes .exit)) ⌝ }
-    ensures written { λ _. ⌜ now (text .exit) ≡ sheetAfter (now (table .entry)) (now (text .entry)) ⌝ }
+    ensures answer { λ r. ⌜ Tells (sheetOutcome (networkOf (now (table .entry))) (length (now (text .entry)))) (now (bytes .entry)) r (now (bytes .exit)) ⌝ }
+    ensures written { λ _. ⌜ now (text .exit) ≡ sheetAfter (networkOf (now (table .entry))) (now (text .entry)) ⌝ }
 {
     match whole_sheet::whole(table, text) {
         Written::Refused(cause) => cause.number(),

@@ -1,4 +1,6 @@
--- What is answered of a network is fair, Share gives the entry that Shares stores, and what follows a table never matters. Assumes nothing.
+-- What is answered of a network is fair, if its kind shows that shares are defined; and Share gives the entry that Shares stores.
+-- Assumes nothing.
+use mathlib.Core.Bool.{true}
 use mathlib.Core.List.{List}
 use mathlib.Core.Path.{_≡_, refl, sym, ap, subst, _∙_}
 use Prim.Native.Nat.{ℕ, _≤_, _<_}
@@ -7,63 +9,45 @@ use lib.ListN.{length}
 use Rattle.lists.specs.Lists.{at}
 use Rattle.lists.specs.Below.{mapBelow}
 use Rattle.lists.specs.Places.{at-append}
-use Rattle.lists.specs.Range.{sumBelow-same, length-mapBelow, mapBelow-at, mapBelow-same}
+use Rattle.lists.specs.Range.{sumBelow-same, length-mapBelow, mapBelow-at}
 use Rattle.refusals.specs.Outcomes.{Outcome, gives, outcome}
-use Rattle.tables.specs.Layout.{size}
-use Rattle.tables.specs.Holds.{Holds}
-use Rattle.tables.specs.Facts.{holds-test}
 use Rattle.tables.specs.Calls.{given}
-use Rattle.tables.specs.Answers.{Alike}
-use Rattle.formula.specs.Formula.{denominator, numerator, FairShare}
+use Rattle.formula.specs.Network.{Network, denominator, Sound}
+use Rattle.formula.specs.Formula.{numerator, FairShare}
 use Rattle.formula.specs.Fair.{fair, whole}
-use Rattle.formula.specs.Same.{same-denominator, same-numerator}
 use Rattle.shares.specs.Calls.{accepted}
-use Rattle.shares.specs.Answers.{sharesCauses, sharesOutcome, storedNumerators, numeratorsAfter, AllFair, shareOutcome, OneFair, SharesAlike}
+use Rattle.shares.specs.Answers.{sharesCauses, sharesOutcome, storedNumerators, numeratorsAfter, AllFair, shareOutcome, OneFair}
 
 -- ---- a network, and entries enough lent
 
-module _ (t x : List ℕ) (w : Holds t) (l : size t ≤ length x) where
-  taken : {A : Type 0} (values : A) → outcome (sharesCauses t (length x)) values ≡ gives values
-  taken values = accepted t (length x) values (holds-test t w) refl l
+module _ (N : Network) (x : List ℕ) (h : N .held ≡ true) (l : N .buses ≤ length x) where
+  taken : {A : Type 0} (values : A) → outcome (sharesCauses N (length x)) values ≡ gives values
+  taken values = accepted N (length x) values h refl l
 
-  entry-is : (v : ℕ) → v < size t → at (numeratorsAfter t x) v ≡ numerator t v
+  entry-is : (v : ℕ) → v < N .buses → at (numeratorsAfter N x) v ≡ numerator N v
   unfolding storedNumerators
   entry-is v b =
-      rw (taken (storedNumerators t x))
-      (at-append (mapBelow (size t) (numerator t)) _ v (omega (arith, length-mapBelow (size t) (numerator t)))
-      ∙ mapBelow-at (numerator t) (size t) b)
+      rw (taken (storedNumerators N x))
+      (at-append (mapBelow (N .buses) (numerator N)) _ v (omega (arith, length-mapBelow (N .buses) (numerator N)))
+      ∙ mapBelow-at (numerator N) (N .buses) b)
 
   -- Share gives the entry that Shares stores, and the same L
-  pub same-share : (v : ℕ) → v < size t → (sharesOutcome t (length x) ≡ gives (denominator t)) × (shareOutcome t v ≡ gives (at (numeratorsAfter t x) v, denominator t))
-  same-share v b = (taken (denominator t), given t v _ (holds-test t w) refl b ∙ ap (λ y. gives (y, denominator t)) (sym (entry-is v b)))
+  pub same-share : (v : ℕ) → v < N .buses → (sharesOutcome N (length x) ≡ gives (denominator N)) × (shareOutcome N v ≡ gives (at (numeratorsAfter N x) v, denominator N))
+  same-share v b = (taken (denominator N), given (N .held) (N .buses) v _ h refl b ∙ ap (λ y. gives (y, denominator N)) (sym (entry-is v b)))
 
 -- ---- the third demand follows from what is answered and stored
 
-pub all-fair : (t x : List ℕ) {o : Outcome ℕ} {after : List ℕ} → o ≡ sharesOutcome t (length x) → after ≡ numeratorsAfter t x → AllFair t (length x) o after
-all-fair t x {after = after} e f w l =
-    let entry : (v : ℕ) → v < size t → numerator t v ≡ at after v = λ v b. sym (ap (λ a. at a v) f ∙ entry-is t x w l v b) in
-    record {
-      L = denominator t;
-      given = e ∙ taken t x w l (denominator t);
-      each = λ v b. subst (FairShare t (denominator t) v) (entry v b) (fair w v b);
-      whole = sumBelow-same (at after) (numerator t) (size t) (λ v b. sym (entry v b)) ∙ whole w;
-    }
+module _ (N : Network) (sound : N .held ≡ true → Sound N) where
+  pub all-fair : (x : List ℕ) {o : Outcome ℕ} {after : List ℕ} → o ≡ sharesOutcome N (length x) → after ≡ numeratorsAfter N x → AllFair N (length x) o after
+  all-fair x {after = after} e f h l =
+      let entry : (v : ℕ) → v < N .buses → numerator N v ≡ at after v = λ v b. sym (ap (λ a. at a v) f ∙ entry-is N x h l v b) in
+      record {
+        L = denominator N;
+        given = e ∙ taken N x h l (denominator N);
+        each = λ v b. subst (FairShare N (denominator N) v) (entry v b) (fair (sound h) v b);
+        whole = sumBelow-same (at after) (numerator N) (N .buses) (λ v b. sym (entry v b)) ∙ whole (sound h);
+      }
 
-pub one-fair : (t : List ℕ) (bus : ℕ) {o : Outcome (ℕ × ℕ)} → o ≡ shareOutcome t bus → OneFair t bus o
-one-fair t bus e w b =
-    record { x = numerator t bus; L = denominator t; given = e ∙ given t bus _ (holds-test t w) refl b; share = fair w bus b }
-
--- ---- entries beyond the table
-
-module _ (a b : List ℕ) (w : Alike a b) where
-  same-stored : (x : List ℕ) → storedNumerators a x ≡ storedNumerators b x
-  unfolding storedNumerators
-  same-stored x = rw (w .sizes, mapBelow-same (numerator a) (numerator b) (size b) (λ v _. same-numerator w v))
-
-  -- slices that begin with the same table give and store the same
-  pub same-answers : SharesAlike a b
-  same-answers = record {
-    sharesAnswers = λ lent. rw (w .judged, w .sizes, same-denominator w);
-    stores = λ x. rw (w .judged, w .sizes, same-stored x);
-    shareAnswers = λ bus. rw (w .judged, w .sizes, same-numerator w bus, same-denominator w);
-  }
+  pub one-fair : (bus : ℕ) {o : Outcome (ℕ × ℕ)} → o ≡ shareOutcome N bus → OneFair N bus o
+  one-fair bus e h b =
+      record { x = numerator N bus; L = denominator N; given = e ∙ given (N .held) (N .buses) bus _ h refl b; share = fair (sound h) bus b }

@@ -6,8 +6,8 @@ use lib.ListN.{length, drop}
 use Rattle.refusals.specs.declared.Refusal.the-variants.{NoSuchBus, TextTooShort}
 use Rattle.refusals.specs.Numbers.{numberOf}
 use Rattle.refusals.specs.Outcomes.{Outcome, gives, refuses, Cause, _⇒_, outcome, valuesOr}
-use Rattle.tables.specs.Layout.{size}
 use Rattle.tables.specs.Answers.{onTable}
+use Rattle.formula.specs.Network.{Network}
 use Rattle.sheet.specs.declared.Written.{Written}
 use Rattle.sheet.specs.declared.Written.the-variants.{Bytes, Refused}
 use Rattle.sheet.specs.Sheet.{sheetLine}
@@ -37,11 +37,11 @@ textAfter text x = valuesOr x (outcome (textCauses text (length x)) (written tex
 -- ---- Sheet line
 
 -- the sheet has no line i; then as for any text
-abbrev pub lineCauses : List ℕ → ℕ → ℕ → List Cause
-lineCauses t i lent = onTable t ((ltb (size t) i ⇒ NoSuchBus) ∷ textCauses (sheetLine t i) lent)
+abbrev pub lineCauses : Network → ℕ → ℕ → List Cause
+lineCauses N i lent = onTable (N .held) ((ltb (N .buses) i ⇒ NoSuchBus) ∷ textCauses (sheetLine N i) lent)
 
-abbrev pub lineOutcome : List ℕ → ℕ → ℕ → Outcome ℕ
-lineOutcome t i lent = outcome (lineCauses t i lent) (length (sheetLine t i))
+abbrev pub lineOutcome : Network → ℕ → ℕ → Outcome ℕ
+lineOutcome N i lent = outcome (lineCauses N i lent) (length (sheetLine N i))
 
-abbrev pub lineAfter : List ℕ → ℕ → List ℕ → List ℕ
-lineAfter t i x = valuesOr x (outcome (lineCauses t i (length x)) (written (sheetLine t i) x))
+abbrev pub lineAfter : Network → ℕ → List ℕ → List ℕ
+lineAfter N i x = valuesOr x (outcome (lineCauses N i (length x)) (written (sheetLine N i) x))

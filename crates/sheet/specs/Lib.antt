@@ -3,4 +3,3 @@ pub mod Sheet
 pub mod Answers
 pub mod Examples
 pub mod Calls
-pub mod Same

@@ -2,9 +2,9 @@
 use mathlib.Core.List.{List, [], _∷_}
 use Prim.Native.Nat.{ℕ, zero, suc}
 use Rattle.text.specs.Text.{filled}
-use Rattle.tables.specs.Layout.{size, need, degree, lines}
 use Rattle.fraction.specs.Cancel.{cancelled}
-use Rattle.formula.specs.Formula.{denominator, numerator}
+use Rattle.formula.specs.Network.{Network, denominator}
+use Rattle.formula.specs.Formula.{numerator}
 
 -- `buses # lines # over #`, ended by byte 10
 abbrev pub headingForm : List ℕ
@@ -12,20 +12,23 @@ headingForm =
     98 ∷ 117 ∷ 115 ∷ 101 ∷ 115 ∷ 32 ∷ 35 ∷ 32 ∷ 108 ∷ 105 ∷ 110 ∷ 101 ∷ 115 ∷ 32 ∷ 35 ∷ 32 ∷ 111 ∷ 118 ∷ 101 ∷ 114 ∷ 32 ∷ 35 ∷ 10 ∷ []
 
 -- n, m and L
-abbrev pub headingNumbers : List ℕ → List ℕ
-headingNumbers t = size t ∷ lines t ∷ denominator t ∷ []
+abbrev pub headingNumbers : Network → List ℕ
+headingNumbers N = N .buses ∷ N .lines ∷ denominator N ∷ []
 
 -- `# # # # #/#`, ended by byte 10
 abbrev pub busForm : List ℕ
 busForm = 35 ∷ 32 ∷ 35 ∷ 32 ∷ 35 ∷ 32 ∷ 35 ∷ 32 ∷ 35 ∷ 47 ∷ 35 ∷ 10 ∷ []
 
 -- bus, need, degree, numerator and the cancelled share
-abbrev pub busNumbers : List ℕ → ℕ → List ℕ
-busNumbers t v =
-    let share = cancelled (numerator t v) (denominator t) in
-    v ∷ need t v ∷ degree t v ∷ numerator t v ∷ share .0 ∷ share .1 ∷ []
+abbrev pub shareNumbers : ℕ → ℕ → ℕ → ℕ → ℕ → List ℕ
+shareNumbers v k d x L =
+    let share = cancelled x L in
+    v ∷ k ∷ d ∷ x ∷ share .0 ∷ share .1 ∷ []
+
+abbrev pub busNumbers : Network → ℕ → List ℕ
+busNumbers N v = shareNumbers v (N .needColumn v) (N .degreeColumn v) (numerator N v) (denominator N)
 
 -- sheet line 0 is the heading; line i is that of bus i - 1
-abbrev pub sheetLine : List ℕ → ℕ → List ℕ
-sheetLine t zero = filled headingForm (headingNumbers t)
-sheetLine t (suc v) = filled busForm (busNumbers t v)
+abbrev pub sheetLine : Network → ℕ → List ℕ
+sheetLine N zero = filled headingForm (headingNumbers N)
+sheetLine N (suc v) = filled busForm (busNumbers N v)

@@ -4,11 +4,11 @@ ghost use Prim.Native.Nat.{_^_, _≤_, _<_};
 ghost use lib.ListN.{length};
 ghost use Rattle.lists.specs.Lists.{count};
 ghost use Rattle.text.specs.Text.{sign, filled};
-ghost use Rattle.tables.specs.Layout.{size};
-ghost use Rattle.tables.specs.Holds.{Holds};
-ghost use Rattle.formula.specs.Formula.{denominator};
-ghost use Rattle.formula.specs.Formula.{numerator as Formula·numerator};
-ghost use Rattle.sheet.specs.Sheet.{headingNumbers, busNumbers};
+ghost use Rattle.tables.specs.Layout.{size, need, degree};
+ghost use Rattle.tables.specs.Holds.{Scorable, Holds};
+ghost use Rattle.formula.specs.Network.{denominator};
+ghost use Rattle.two_way.specs.TwoWay.{networkOf};
+ghost use Rattle.sheet.specs.Sheet.{headingNumbers, shareNumbers};
 ghost use Rattle.sheet.specs.Answers.{writtenSays, textOutcome, textAfter, lineOutcome, lineAfter};
 use fraction::reduce;
 pub use network::Refusal;
@@ -41,16 +41,16 @@ impl Template {
 
 // The numbers of the heading.
 pub fn heading_numbers(table: &[u16], over: u64) -> [u64; 3]
-    requires { ⌜ Holds (now table) × (over ≡ denominator (now table)) ⌝ }
-    ensures { λ r. ⌜ r ≡ headingNumbers (now (table .entry)) ⌝ }
+    requires { ⌜ Holds (now table) × (over ≡ denominator (networkOf (now table))) ⌝ }
+    ensures { λ r. ⌜ r ≡ headingNumbers (networkOf (now (table .entry))) ⌝ }
 {
     [size(table) as u64, lines(table) as u64, over]
 }
 
 // The numbers of a bus's line, whose numerator is known.
 pub fn bus_numbers(table: &[u16], over: u64, numerator: u64, bus: usize) -> [u64; 6]
-    requires { ⌜ Holds (now table) × (bus < size (now table)) × (over ≡ denominator (now table)) × (numerator ≡ Formula·numerator (now table) bus) ⌝ }
-    ensures { λ r. ⌜ r ≡ busNumbers (now (table .entry)) bus ⌝ }
+    requires { ⌜ Scorable (now table) × (bus < size (now table)) × (0 < over) ⌝ }
+    ensures { λ r. ⌜ r ≡ shareNumbers bus (need (now (table .entry)) bus) (degree (now (table .entry)) bus) numerator over ⌝ }
 {
     let need = entry(needs(table), bus) as u64;
     let degree = neighbours(table, bus).len() as u64;
@@ -72,8 +72,8 @@ pub fn place(template: &[u8], numbers: &[u64], out: &mut [u8]) -> Written
 
 // Writes sheet line i at the front of a lent slice: line 0 is the heading, line i that of bus i - 1.
 pub fn line(table: &[u16], i: usize, out: &mut [u8]) -> Written
-    ensures answer { λ r. ⌜ writtenSays r ≡ lineOutcome (now (table .entry)) i (length (now (out .entry))) ⌝ }
-    ensures text { λ _. ⌜ now (out .exit) ≡ lineAfter (now (table .entry)) i (now (out .entry)) ⌝ }
+    ensures answer { λ r. ⌜ writtenSays r ≡ lineOutcome (networkOf (now (table .entry))) i (length (now (out .entry))) ⌝ }
+    ensures text { λ _. ⌜ now (out .exit) ≡ lineAfter (networkOf (now (table .entry))) i (now (out .entry)) ⌝ }
 {
     if !holds(table) {
         return Written::Refused(Refusal::NoNetwork);

@@ -1,6 +1,6 @@
 -- What calls on a bus of a table answer, for every slice and bus: why they are refused, and what Degree and Row give.
 -- Definitions only. Assumes nothing.
-use mathlib.Core.Bool.{not}
+use mathlib.Core.Bool.{Bool, not}
 use mathlib.Core.List.{List, [], _∷_}
 use mathlib.Core.Path.{_≡_}
 use Prim.Native.Nat.{ℕ, _+_, _≤_}
@@ -13,23 +13,23 @@ use Rattle.tables.specs.Layout.{size, needs, row, rowStart, degree}
 use Rattle.tables.specs.Holds.{holds}
 
 -- why any call on a table is refused: the slice holds no network, which is tested first; then the call's own causes
-abbrev pub onTable : List ℕ → List Cause → List Cause
-onTable t causes = (not (holds t) ⇒ NoNetwork) ∷ causes
+abbrev pub onTable : Bool → List Cause → List Cause
+onTable held causes = (not held ⇒ NoNetwork) ∷ causes
 
--- of a call on a bus: the bus is n or above
-abbrev pub busCauses : List ℕ → ℕ → List Cause
-busCauses t bus = onTable t ((not (ltb bus (size t)) ⇒ NoSuchBus) ∷ [])
+-- of a call on a bus of n: the bus is n or above
+abbrev pub busCauses : Bool → ℕ → ℕ → List Cause
+busCauses held n bus = onTable held ((not (ltb bus n) ⇒ NoSuchBus) ∷ [])
 
 abbrev pub degreeOutcome : List ℕ → ℕ → Outcome ℕ
-degreeOutcome t bus = outcome (busCauses t bus) (degree t bus)
+degreeOutcome t bus = outcome (busCauses (holds t) (size t) bus) (degree t bus)
 
 -- the neighbours of a bus; the empty part where Degree would refuse
 abbrev pub rowOutcome : List ℕ → ℕ → List ℕ
-rowOutcome t bus = valuesOr [] (outcome (busCauses t bus) (row t bus))
+rowOutcome t bus = valuesOr [] (outcome (busCauses (holds t) (size t) bus) (row t bus))
 
 -- where the row of a bus begins in the slice, and how many entries it has: Row for callers who cannot be handed a part of a slice
 abbrev pub rowPlaceOutcome : List ℕ → ℕ → Outcome (ℕ × ℕ)
-rowPlaceOutcome t bus = outcome (busCauses t bus) (rowStart t bus, degree t bus)
+rowPlaceOutcome t bus = outcome (busCauses (holds t) (size t) bus) (rowStart t bus, degree t bus)
 
 -- the entries at that place are what Row gives; where no place is given, Row gives the empty part
 abbrev pub RowStands : List ℕ → ℕ → Outcome (ℕ × ℕ) → Type 0

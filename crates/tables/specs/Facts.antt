@@ -14,7 +14,7 @@ use Rattle.lists.specs.Tests.{and-both, and-left, and-right, and-fails-left}
 use Rattle.lists.specs.Loops.{allBelow-at, allBelow-by}
 use Rattle.tables.specs.Limits.{maxBuses, maxDegree, maxNeed}
 use Rattle.tables.specs.Layout.{rowAt, size, needs, starts, entries, links, startsAt}
-use Rattle.tables.specs.Rows.{last-read, room}
+use Rattle.tables.specs.Rows.{last-read, length-needs, room}
 use Rattle.tables.specs.Holds.{within, agree, complete, fairNeeds, neverFall, shortRows, tidy, tidyRow, tidyRows, soundRows, mirrored, twoWay, holds, Complete, FairNeeds, Steps, TidyRow, SoundRows, Mirrored, Holds}
 
 pub within-test : (a b x : ℕ) → a ≤ x → x ≤ b → within a b x ≡ true
@@ -164,6 +164,10 @@ module _ (h : ℕ) (t : List ℕ) {n : ℕ} {s l : List ℕ} (en : n ≡ size t)
 -- ---- a network
 
 module _ (t : List ℕ) where
+  -- the needs, between their limits
+  pub holds-needs : Holds t → FairNeeds (needs t)
+  holds-needs w i b = let l : i < size t = omega (arith, length-needs t (w .shape .complete)) in (w .shape .needed i l, w .limited i l)
+
   pub holds-facts : holds t ≡ true → Holds t
   unfolding holds twoWay
   holds-facts w =
@@ -174,11 +178,16 @@ module _ (t : List ℕ) where
       let w2 = and-right (complete (startsAt t) t && fairNeeds (needs t)) _ w in
       let c = complete-facts (startsAt t) t (and-left (complete (startsAt t) t) _ w1) in
       let g = room (startsAt t) t c in
+      let f = fair-facts (needs t) (and-right (complete (startsAt t) t) _ w1) in
+      let long = length-needs t c in
       record {
-        complete = c;
-        fair = fair-facts (needs t) (and-right (complete (startsAt t) t) _ w1);
-        rows = rows-facts n s l (g .0) (g .1) (and-left (soundRows n s l) _ w2);
+        shape = record {
+          complete = c;
+          needed = λ i b. f i (omega arith) .0;
+          rows = rows-facts n s l (g .0) (g .1) (and-left (soundRows n s l) _ w2);
+        };
         mirrored = mirrored-facts n s l (and-right (soundRows n s l) _ w2);
+        limited = λ i b. f i (omega arith) .1;
       }
 
   pub holds-test : Holds t → holds t ≡ true
@@ -186,7 +195,7 @@ module _ (t : List ℕ) where
   holds-test w =
       let s = starts (startsAt t) t in
       let l = links (startsAt t) t in
-      rw (complete-test (startsAt t) t (w .complete), fair-test (needs t) (w .fair), rows-test (size t) s l (w .rows))
+      rw (complete-test (startsAt t) t (w .shape .complete), fair-test (needs t) (holds-needs w), rows-test (size t) s l (w .shape .rows))
       (mirrored-test (size t) s l (w .mirrored))
 
   -- as code tests it: the row starts begin at h and the needs are q, and b is the test of the rows

@@ -98,8 +98,14 @@ pub record SoundRows (n : ℕ) (s l : List ℕ) : Type 0 where
 abbrev pub Mirrored : ℕ → List ℕ → List ℕ → Type 0
 Mirrored n s l = (i j : ℕ) → i < n → j < n → has j (rowAt s l i) ≡ has i (rowAt s l j)
 
-pub record Holds (t : List ℕ) : Type 0 where
+-- what makes a table one that can be scored, whichever way its lines run: it is complete, needs are above zero, rows are sound
+pub record Scorable (t : List ℕ) : Type 0 where
   pub complete : Complete (startsAt t) t
-  pub fair : FairNeeds (needs t)
+  pub needed : (i : ℕ) → i < size t → 1 ≤ at (needs t) i
   pub rows : SoundRows (size t) (starts (startsAt t) t) (links (startsAt t) t)
+
+-- what makes it a network's: lines run both ways, and needs keep their limits
+pub record Holds (t : List ℕ) : Type 0 where
+  pub shape : Scorable t
   pub mirrored : Mirrored (size t) (starts (startsAt t) t) (links (startsAt t) t)
+  pub limited : (i : ℕ) → i < size t → at (needs t) i ≤ maxNeed

@@ -127,10 +127,13 @@ module _ (n : ℕ) (q : List ℕ) (rows : ℕ → List ℕ) (rest : List ℕ) (l
   unfolding tableOf row at
   made-holds least most fair tidy short mirror =
       record {
-        complete = record { least = least; most = most; whole = omega (arith, made-last, length-tableOf n q rows long, length-append (tableOf n q rows) rest) };
-        fair = rw made-needs fair;
-        rows = rows-sound n rows (n ∷ q) rest shape begin made-size tidy short;
+        shape = record {
+          complete = record { least = least; most = most; whole = omega (arith, made-last, length-tableOf n q rows long, length-append (tableOf n q rows) rest) };
+          needed = λ i b. rw made-needs (fair i (omega (arith, made-size)) .0);
+          rows = rows-sound n rows (n ∷ q) rest shape begin made-size tidy short;
+        };
         mirrored = λ i j b c. ap (has j) (made-row i b) ∙ mirror i j b c ∙ sym (ap (has i) (made-row j c));
+        limited = λ i b. rw made-needs (fair i (omega (arith, made-size)) .1);
       }
 
 -- what follows a table that was made never matters

@@ -40,16 +40,16 @@ module _ (t : List ℕ) (w : Holds t) where
   -- the number of neighbour numbers is even, and m is half of it
   pub two-for-each : last (startsAt t) t ≡ 2 * lines t
   unfolding lines row
-  two-for-each = sym (last-start (startsAt t) t (w .complete)) ∙ paired _ _ _ (w .rows) (w .mirrored)
+  two-for-each = sym (last-start (startsAt t) t (w .shape .complete)) ∙ paired _ _ _ (w .shape .rows) (w .mirrored)
 
   pub half : length (links (startsAt t) t) / 2 ≡ lines t
-  half = omega (arith, length-links (startsAt t) t (w .complete), two-for-each)
+  half = omega (arith, length-links (startsAt t) t (w .shape .complete), two-for-each)
 
   last-few : last (startsAt t) t ≤ size t * maxDegree
-  last-few = omega (arith, last-start (startsAt t) t (w .complete), start-few _ _ _ (w .rows) (size t) (omega arith))
+  last-few = omega (arith, last-start (startsAt t) t (w .shape .complete), start-few _ _ _ (w .shape .rows) (size t) (omega arith))
 
   pub lines-few : lines t ≤ maxLines
-  lines-few = omega (arith, two-for-each, last-few, w .complete .most)
+  lines-few = omega (arith, two-for-each, last-few, w .shape .complete .most)
 
   pub entries-few : entries (startsAt t) t ≤ maxEntries
-  entries-few = omega (arith, last-few, w .complete .most)
+  entries-few = omega (arith, last-few, w .shape .complete .most)

@@ -11,7 +11,7 @@ use Rattle.lists.specs.Lists.{_∈_, at, part, Once}
 use Rattle.lists.specs.Places.{length-part, at-part, part-part, ascending-once, at-in}
 use Rattle.tables.specs.Limits.{maxDegree}
 use Rattle.tables.specs.Layout.{rowAt, size, needs, starts, last, entries, links, startsAt, row, rowStart, degree}
-use Rattle.tables.specs.Holds.{Complete, Spans, TidyRow, Holds}
+use Rattle.tables.specs.Holds.{Complete, Spans, TidyRow, Scorable}
 
 -- a row between the starts a and e, as code reads it
 pub row-read : (s l : List ℕ) (i : ℕ) {a e : ℕ} → a ≡ at s i → e ≡ at s (i + 1) → part a e l ≡ rowAt s l i
@@ -98,7 +98,7 @@ module _ (h : ℕ) (t : List ℕ) (w : Complete h t) where
 
 -- ---- and where rows stand
 
-module _ (t : List ℕ) (w : Holds t) (i : ℕ) (b : i < size t) where
+module _ (t : List ℕ) (w : Scorable t) (i : ℕ) (b : i < size t) where
   abbrev s : List ℕ
   s = starts (startsAt t) t
 

@@ -12,7 +12,8 @@ use Rattle.lists.specs.Range.{in-mapBelow, of-mapBelow}
 use Rattle.fraction.specs.Divisors.{lcmOf, lcmAll}
 use Rattle.fraction.specs.Lcm.{lcmAll-multiple, lcmAll-least, lcmAll-next}
 use Rattle.tables.specs.Limits.{maxDegree}
-use Rattle.formula.specs.Denominator.{up-to, of-up-to, maxDenominator, multiple-most}
+use Rattle.formula.specs.Tables.{maxDenominator}
+use Rattle.formula.specs.Denominator.{up-to, of-up-to, multiple-most}
 
 -- the numbers behind m / 2, from 0 on
 abbrev behind : ℕ → ℕ → ℕ

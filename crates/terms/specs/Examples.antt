@@ -2,12 +2,11 @@
 use mathlib.Core.List.{[], _∷_}
 use mathlib.Core.Path.{_≡_, refl}
 use Rattle.lists.specs.Lists.{at}
-use Rattle.lists.specs.Below.{largestBelow, joinBelow, mapBelow}
-use Rattle.fraction.specs.Divisors.{gcdOf, lcmOf, lcmAll}
-use Rattle.game.specs.Game.{neighbourTerm}
+use Rattle.lists.specs.Below.{joinBelow, mapBelow}
+use Rattle.game.specs.Game.{neighbourTerm, neighbour}
 use Rattle.tables.specs.Layout.{rowAt, needs, starts, links, row}
 use Rattle.tables.specs.Examples.{path}
-use Rattle.formula.specs.Formula.{largestDegree, denominator, neighbourOf}
+use Rattle.formula.specs.Tables.{gameOf}
 use Rattle.terms.specs.Unit.{unit}
 
 -- 12 over 1 × 2, 2 × 3 and 3 × 4; a bus of degree 0 has no neighbour, and its unit is 0
@@ -16,10 +15,10 @@ unfolding unit mapBelow joinBelow
 units = refl
 
 -- over 6: bus 0 gives 3 to bus 1, and bus 1 gives 2 to each end if it needs 1, 1 if it needs 2, and nothing if it needs 3
-given : mapBelow 3 (neighbourOf (path 1)) ≡ 3 ∷ 2 ∷ 3 ∷ []
-unfolding path neighbourOf neighbourTerm denominator largestDegree largestBelow lcmAll lcmOf gcdOf mapBelow joinBelow rowAt needs starts links row at
+given : mapBelow 3 (neighbour (gameOf (path 1)) 6) ≡ 3 ∷ 2 ∷ 3 ∷ []
+unfolding path neighbourTerm mapBelow joinBelow rowAt needs starts links row at
 given = refl
 
-by-need : (neighbourOf (path 2) 1 ∷ neighbourOf (path 3) 1 ∷ []) ≡ 1 ∷ 0 ∷ []
-unfolding path neighbourOf neighbourTerm denominator largestDegree largestBelow lcmAll lcmOf gcdOf mapBelow joinBelow rowAt needs starts links row at
+by-need : (neighbour (gameOf (path 2)) 6 1 ∷ neighbour (gameOf (path 3)) 6 1 ∷ []) ≡ 1 ∷ 0 ∷ []
+unfolding path neighbourTerm mapBelow joinBelow rowAt needs starts links row at
 by-need = refl

@@ -7,8 +7,9 @@ ghost use Rattle.lists.specs.Below.{mapBelow};
 ghost use Rattle.fraction.specs.Divisors.{lcmAll};
 ghost use Rattle.tables.specs.Limits.{maxBuses, maxDegree};
 ghost use Rattle.tables.specs.Layout.{size};
-ghost use Rattle.tables.specs.Holds.{Holds};
-ghost use Rattle.formula.specs.Formula.{largestDegree, denominator, neighbourOf};
+ghost use Rattle.tables.specs.Holds.{Scorable};
+ghost use Rattle.game.specs.Game.{neighbour};
+ghost use Rattle.formula.specs.Tables.{gameOf, largestDegree, divisorsOf, Over};
 ghost use Rattle.terms.specs.Unit.{degrees, unit};
 use fraction::lcm;
 use network::Network;
@@ -25,7 +26,7 @@ impl Degrees {
 }
 
 fn largest_degree(table: &[u16]) -> usize
-    requires { ⌜ Holds (now table) ⌝ }
+    requires { ⌜ Scorable (now table) ⌝ }
     ensures { λ r. ⌜ r ≡ largestDegree (now (table .entry)) ⌝ }
 {
     let n = size(table);
@@ -57,8 +58,8 @@ fn multiple_up_to(m: usize) -> u64
 
 // L: what all shares of a network are over.
 pub fn denominator(table: &[u16]) -> u64
-    requires { ⌜ Holds (now table) ⌝ }
-    ensures { λ r. ⌜ r ≡ denominator (now (table .entry)) ⌝ }
+    requires { ⌜ Scorable (now table) ⌝ }
+    ensures { λ r. ⌜ r ≡ lcmAll (divisorsOf (now (table .entry))) ⌝ }
 {
     multiple_up_to(1 + largest_degree(table))
 }
@@ -76,11 +77,11 @@ pub fn units(over: u64) -> [u64; Degrees::ALL]
     units
 }
 
-// What a bus gives to each neighbour.
-pub fn term(table: &[u16], units: &[u64; Degrees::ALL], bus: usize) -> u64
-    requires { ⌜ Holds (now table) × (bus < size (now table)) ⌝ }
-    requires { ⌜ Tabled degrees (unit (denominator (now table))) (now units) ⌝ }
-    ensures { λ r. ⌜ r ≡ neighbourOf (now (table .entry)) bus ⌝ }
+// What a bus gives to each neighbour, over any L that makes it whole.
+pub fn term(table: &[u16], over: u64, units: &[u64; Degrees::ALL], bus: usize) -> u64
+    requires { ⌜ Scorable (now table) × (bus < size (now table)) ⌝ }
+    requires { ⌜ Over (now table) over × Tabled degrees (unit over) (now units) ⌝ }
+    ensures { λ r. ⌜ r ≡ neighbour (gameOf (now (table .entry))) over bus ⌝ }
 {
     let d = neighbours(table, bus).len();
     let k = entry(needs(table), bus);
@@ -91,15 +92,20 @@ pub fn term(table: &[u16], units: &[u64; Degrees::ALL], bus: usize) -> u64
 }
 
 // Fills the terms with what each bus gives to each neighbour.
-pub fn fill(table: &[u16], units: &[u64; Degrees::ALL], terms: &mut [u64; Network::BUSES])
-    requires { ⌜ Holds (now table) × Tabled degrees (unit (denominator (now table))) (now units) ⌝ }
+pub fn fill(
+    table: &[u16],
+    over: u64,
+    units: &[u64; Degrees::ALL],
+    terms: &mut [u64; Network::BUSES],
+)
+    requires { ⌜ Scorable (now table) × Over (now table) over × Tabled degrees (unit over) (now units) ⌝ }
     requires { ⌜ length (now terms) ≡ maxBuses ⌝ }
-    ensures { λ _. ⌜ Tabled (size (now (table .entry))) (neighbourOf (now (table .entry))) (now (terms .exit)) ⌝ }
+    ensures { λ _. ⌜ Tabled (size (now (table .entry))) (neighbour (gameOf (now (table .entry))) over) (now (terms .exit)) ⌝ }
 {
     let n = size(table);
     let mut bus = 0;
     while bus < n {
-        terms[bus] = term(table, units, bus);
+        terms[bus] = term(table, over, units, bus);
         bus += 1;
     }
 }

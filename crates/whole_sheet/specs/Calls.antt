@@ -7,8 +7,10 @@ use lib.ListN.{length, take}
 use lib.Seq.{take-at}
 use Rattle.lists.specs.Lists.{put}
 use Rattle.lists.specs.Writes.{put-front}
-use Rattle.refusals.specs.Outcomes.{Outcome, refuses}
-use Rattle.tables.specs.Holds.{holds}
+use Rattle.refusals.specs.Outcomes.{Outcome, refuses, valuesOr}
+use Rattle.tables.specs.Calls.{on-held}
+use Rattle.formula.specs.Network.{Network}
+use Rattle.sheet.specs.Answers.{textCauses, written}
 use Rattle.sheet.specs.Calls.{TextDue}
 use Rattle.whole_sheet.specs.Whole.{wholeSheet, sheetOutcome, sheetAfter}
 
@@ -16,13 +18,15 @@ use Rattle.whole_sheet.specs.Whole.{wholeSheet, sheetOutcome, sheetAfter
 pub written-front : (text x : List ℕ) {n : ℕ} {y : List ℕ} → n ≡ length text → y ≡ put x 0 text → take n y ≡ text
 written-front text x {n} e w = ap (take n) (w ∙ put-front x text) ∙ take-at text _ n (sym e)
 
--- an answer, and what bytes that held x hold after it, are those due for the sheet of t
-abbrev pub SheetDue : List ℕ → List ℕ → Outcome ℕ → List ℕ → Type 0
-SheetDue t x answer after = (answer ≡ sheetOutcome t (length x)) × (after ≡ sheetAfter t x)
+-- an answer, and what bytes that held x hold after it, are those due for the sheet
+abbrev pub SheetDue : Network → List ℕ → Outcome ℕ → List ℕ → Type 0
+SheetDue N x answer after = (answer ≡ sheetOutcome N (length x)) × (after ≡ sheetAfter N x)
 
-module _ (t x : List ℕ) where
-  pub no-network : holds t ≡ false → SheetDue t x (refuses 11) x
+module _ (N : Network) (x : List ℕ) where
+  pub no-network : N .held ≡ false → SheetDue N x (refuses 11) x
   no-network h = rw h (refl, refl)
 
-  pub as-text : {text : List ℕ} {answer : Outcome ℕ} {after : List ℕ} → holds t ≡ true → text ≡ wholeSheet t → TextDue text x answer after → SheetDue t x answer after
-  as-text h e w = rw h (rw e at w)
+  pub as-text : {text : List ℕ} {answer : Outcome ℕ} {after : List ℕ} → N .held ≡ true → text ≡ wholeSheet N → TextDue text x answer after → SheetDue N x answer after
+  as-text h e w =
+      let w = rw e at w in
+      (w .0 ∙ on-held (textCauses (wholeSheet N) (length x)) _ h, w .1 ∙ ap (valuesOr x) (on-held (textCauses (wholeSheet N) (length x)) (written (wholeSheet N) x) h))

@@ -1,6 +1,7 @@
 -- No network's sheet has more bytes than `longestSheet`. Assumes nothing.
+use mathlib.Core.Bool.{true}
 use mathlib.Core.List.{List, [], _∷_}
-use mathlib.Core.Path.{_≡_}
+use mathlib.Core.Path.{_≡_, refl, sym, _∙_}
 use Prim.Native.Nat.{ℕ, zero, suc, _+_, _*_, _/_, _≤_, _<_}
 use native.Mathlib.Nat.{le-trans, mul-le-mul, div-le-self}
 use native.Mathlib.Omega.{arith}
@@ -11,21 +12,24 @@ use Rattle.lists.specs.Below.{joinBelow}
 use Rattle.lists.specs.Loops.{sumBelow-next}
 use Rattle.lists.specs.Range.{sumBelow-le, sumBelow-rises, sumBelow-const, length-joinBelow}
 use Rattle.refusals.specs.Outcomes.{gives}
+use Rattle.tables.specs.Calls.{on-held}
 use Rattle.text.specs.Text.{decimal, filled}
 use Rattle.text.specs.Decimal.{decimal-few}
 use Rattle.tables.specs.Limits.{maxBuses}
-use Rattle.tables.specs.Layout.{size, need, degree, lines}
 use Rattle.tables.specs.Holds.{Holds}
-use Rattle.tables.specs.Facts.{holds-test}
-use Rattle.tables.specs.Rows.{length-needs}
 use Rattle.tables.specs.Lines.{lines-few}
 use Rattle.fraction.specs.Divisors.{gcdOf}
-use Rattle.formula.specs.Formula.{denominator, numerator}
-use Rattle.formula.specs.Denominator.{maxDenominator, degree-few, denominator-most}
+use Rattle.formula.specs.Network.{Network, denominator}
+use Rattle.formula.specs.Formula.{numerator}
+use Rattle.formula.specs.Tables.{maxDenominator}
 use Rattle.formula.specs.Fair.{whole}
+use Rattle.formula.specs.Played.{degree-few, own-over}
+use Rattle.two_way.specs.TwoWay.{networkOf}
+use Rattle.two_way.specs.Sound.{total-weight, sound}
+use Rattle.sheet.specs.Answers.{textCauses}
 use Rattle.sheet.specs.Sheet.{headingForm, busForm, sheetLine}
 use Rattle.whole_sheet.specs.Whole.{wholeSheet, sheetOutcome}
-use Rattle.whole_sheet.specs.Work.{longestLine, longestSheet}
+use Rattle.whole_sheet.specs.Work.{longestLine, longestSheet, Short}
 
 -- the bytes of a line: those of its template, and the digits of its numbers
 heading-length : (n m L : ℕ) → length (filled headingForm (n ∷ m ∷ L ∷ [])) ≡ 20 + length (decimal n) + length (decimal m) + length (decimal L)
@@ -37,51 +41,63 @@ bus-length : (v k d x p q : ℕ) → length (filled busForm (v ∷ k ∷ d ∷ x
 unfolding filled at
 bus-length v k d x p q = simp length-append (omega arith)
 
-module _ {t : List ℕ} (w : Holds t) where
-  -- a share is no larger than all of them, which are n L
-  numerator-most : (v : ℕ) → v < size t → numerator t v ≤ maxBuses * maxDenominator
+module _ {N : Network} (w : Short N) where
+  -- a share is no larger than all of them, which are L times the total weight
+  numerator-most : (v : ℕ) → v < N .buses → numerator N v ≤ maxDenominator * maxBuses
   numerator-most v b =
-      let next : v + 1 ≤ size t = omega arith in
-      le-trans (omega (arith, sumBelow-rises (numerator t) (size t) next, sumBelow-next v (numerator t), whole w)) (mul-le-mul (w .complete .most) (denominator-most w))
+      let next : v + 1 ≤ N .buses = omega arith in
+      le-trans (omega (arith, sumBelow-rises (numerator N) (N .buses) next, sumBelow-next v (numerator N), whole (w .sound))) (mul-le-mul (w .over) (w .totalWeight))
 
-  bus-fits : (v : ℕ) → v < size t → length (sheetLine t (suc v)) ≤ longestLine
+  bus-fits : (v : ℕ) → v < N .buses → length (sheetLine N (suc v)) ≤ longestLine
   bus-fits v b =
-      let x = numerator t v in
-      let L = denominator t in
+      let x = numerator N v in
+      let L = denominator N in
       let g = gcdOf x L in
       let most = numerator-most v b in
-      let few = denominator-most w in
+      let few = w .over in
       omega (
         arith,
-        bus-length v (need t v) (degree t v) x (x / g) (L / g),
-        decimal-few 2 v (omega (arith, w .complete .most)),
-        decimal-few 1 (need t v) (omega (arith, w .fair v (omega (arith, length-needs t (w .complete))) .1)),
-        decimal-few 1 (degree t v) (omega (arith, degree-few w v b)),
+        bus-length v (N .needColumn v) (N .degreeColumn v) x (x / g) (L / g),
+        decimal-few 2 v (omega (arith, w .buses)),
+        decimal-few 1 (N .needColumn v) (omega (arith, w .needColumn v b)),
+        decimal-few 1 (N .degreeColumn v) (omega (arith, w .degreeColumn v b)),
         decimal-few 12 x (omega (arith, most)),
         decimal-few 12 (x / g) (omega (arith, div-le-self x g, most)),
         decimal-few 9 (L / g) (omega (arith, div-le-self L g, few)),
       )
 
   -- every line fits, the heading too
-  pub line-fits : (i : ℕ) → i ≤ size t → length (sheetLine t i) ≤ longestLine
+  pub line-fits : (i : ℕ) → i ≤ N .buses → length (sheetLine N i) ≤ longestLine
   line-fits zero b =
       omega (
         arith,
-        heading-length (size t) (lines t) (denominator t),
-        decimal-few 2 (size t) (omega (arith, w .complete .most)),
-        decimal-few 3 (lines t) (omega (arith, lines-few t w)),
-        decimal-few 9 (denominator t) (omega (arith, denominator-most w)),
+        heading-length (N .buses) (N .lines) (denominator N),
+        decimal-few 2 (N .buses) (omega (arith, w .buses)),
+        decimal-few 4 (N .lines) (w .lines),
+        decimal-few 9 (denominator N) (omega (arith, w .over)),
       )
   line-fits (suc v) b = bus-fits v (omega arith)
 
-  lines-fit : (m : ℕ) → m ≤ size t + 1 → length (joinBelow m (sheetLine t)) ≤ longestSheet
+  lines-fit : (m : ℕ) → m ≤ N .buses + 1 → length (joinBelow m (sheetLine N)) ≤ longestSheet
   lines-fit m h =
-      omega (arith, length-joinBelow m (sheetLine t), sumBelow-le (λ i. length (sheetLine t i)) (λ i. longestLine) m (λ i b. line-fits i (omega arith)), sumBelow-const longestLine m, w .complete .most)
+      omega (arith, length-joinBelow m (sheetLine N), sumBelow-le (λ i. length (sheetLine N i)) (λ i. longestLine) m (λ i b. line-fits i (omega arith)), sumBelow-const longestLine m, w .buses)
 
   -- EVERY SHEET FITS
-  pub sheet-fits : length (wholeSheet t) ≤ longestSheet
+  pub sheet-fits : length (wholeSheet N) ≤ longestSheet
   sheet-fits = lines-fit _ (omega arith)
 
   -- so a call that is lent so many bytes is not refused for want of them
-  pub never-short : (x : List ℕ) → longestSheet ≤ length x → sheetOutcome t (length x) ≡ gives (length (wholeSheet t))
-  never-short x h = rw (holds-test t w, le-ltb (length x) (length (wholeSheet t)) (le-trans sheet-fits h))
+  pub never-short : (x : List ℕ) → N .held ≡ true → longestSheet ≤ length x → sheetOutcome N (length x) ≡ gives (length (wholeSheet N))
+  never-short x g h = sym (on-held (textCauses (wholeSheet N) (length x)) _ g) ∙ rw (le-ltb (length x) (length (wholeSheet N)) (le-trans sheet-fits h))
+
+-- the network of a table is such a one
+pub held-short : {t : List ℕ} → Holds t → Short (networkOf t)
+held-short {t} w = record {
+  sound = sound (w .shape) (w .mirrored);
+  buses = w .shape .complete .most;
+  lines = omega (arith, lines-few t w);
+  needColumn = w .limited;
+  degreeColumn = degree-few (w .shape);
+  over = own-over (w .shape) refl .few;
+  totalWeight = omega (arith, total-weight t, w .shape .complete .most);
+}

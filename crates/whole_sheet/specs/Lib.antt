@@ -5,4 +5,3 @@ pub mod Work
 pub mod Fits
 pub mod Lines
 pub mod Calls
-pub mod Same

@@ -5,6 +5,7 @@ ghost use lib.ListN.{length};
 ghost use Rattle.lists.specs.Lists.{put};
 ghost use Rattle.tables.specs.Layout.{size};
 ghost use Rattle.tables.specs.Holds.{Holds};
+ghost use Rattle.two_way.specs.TwoWay.{networkOf};
 ghost use Rattle.sheet.specs.Sheet.{sheetLine};
 ghost use Rattle.sheet.specs.Answers.{writtenSays, textOutcome, textAfter};
 ghost use Rattle.whole_sheet.specs.Whole.{wholeSheet, sheetOutcome, sheetAfter};
@@ -40,9 +41,9 @@ fn write_line(
     out: &mut [u8],
     at: usize,
 ) -> usize
-    requires { ⌜ Scored (now table) over (now numerators) × (i ≤ size (now table)) × (at + longestLine ≤ length (now out)) ⌝ }
-    ensures { λ r. ⌜ (r ≡ at + length (sheetLine (now (table .entry)) i)) × (r ≤ at + longestLine) ⌝ }
-    ensures { λ _. ⌜ now (out .exit) ≡ put (now (out .entry)) at (sheetLine (now (table .entry)) i) ⌝ }
+    requires { ⌜ Holds (now table) × Scored (networkOf (now table)) over (now numerators) × (i ≤ size (now table)) × (at + longestLine ≤ length (now out)) ⌝ }
+    ensures { λ r. ⌜ (r ≡ at + length (sheetLine (networkOf (now (table .entry))) i)) × (r ≤ at + longestLine) ⌝ }
+    ensures { λ _. ⌜ now (out .exit) ≡ put (now (out .entry)) at (sheetLine (networkOf (now (table .entry))) i) ⌝ }
 {
     if i == 0 {
         return fill(&Template::HEADING, &heading_numbers(table, over), out, at);
@@ -58,9 +59,9 @@ fn write_line(
 
 // Writes sheet lines 0 to n at the front, and gives the place behind them.
 fn write_lines(table: &[u16], over: u64, numerators: &[u64], out: &mut [u8]) -> usize
-    requires { ⌜ Scored (now table) over (now numerators) × (longestSheet ≤ length (now out)) ⌝ }
-    ensures { λ r. ⌜ (r ≡ length (wholeSheet (now (table .entry)))) × (r ≤ longestSheet) ⌝ }
-    ensures { λ _. ⌜ now (out .exit) ≡ put (now (out .entry)) 0 (wholeSheet (now (table .entry))) ⌝ }
+    requires { ⌜ Holds (now table) × Scored (networkOf (now table)) over (now numerators) × (longestSheet ≤ length (now out)) ⌝ }
+    ensures { λ r. ⌜ (r ≡ length (wholeSheet (networkOf (now (table .entry))))) × (r ≤ longestSheet) ⌝ }
+    ensures { λ _. ⌜ now (out .exit) ≡ put (now (out .entry)) 0 (wholeSheet (networkOf (now (table .entry)))) ⌝ }
 {
     let n = size(table);
     let mut end = 0;
@@ -75,8 +76,8 @@ fn write_lines(table: &[u16], over: u64, numerators: &[u64], out: &mut [u8]) -> 
 // Writes the sheet of a network. The table is not tested, and its L is found once.
 pub fn write_sheet(table: &[u16], out: &mut [u8]) -> usize
     requires { ⌜ Holds (now table) × (longestSheet ≤ length (now out)) ⌝ }
-    ensures { λ r. ⌜ (r ≡ length (wholeSheet (now (table .entry)))) × (r ≤ longestSheet) ⌝ }
-    ensures { λ _. ⌜ now (out .exit) ≡ put (now (out .entry)) 0 (wholeSheet (now (table .entry))) ⌝ }
+    ensures { λ r. ⌜ (r ≡ length (wholeSheet (networkOf (now (table .entry))))) × (r ≤ longestSheet) ⌝ }
+    ensures { λ _. ⌜ now (out .exit) ≡ put (now (out .entry)) 0 (wholeSheet (networkOf (now (table .entry)))) ⌝ }
 {
     let mut numerators = [0u64; Network::BUSES];
     let over = score(table, &mut numerators);
@@ -109,8 +110,8 @@ fn place(text: &[u8], out: &mut [u8]) -> Written
 
 // Writes sheet lines 0 to n at the front of a lent slice. They are written aside first, since a refused call changes nothing.
 pub fn whole(table: &[u16], out: &mut [u8]) -> Written
-    ensures answer { λ r. ⌜ writtenSays r ≡ sheetOutcome (now (table .entry)) (length (now (out .entry))) ⌝ }
-    ensures text { λ _. ⌜ now (out .exit) ≡ sheetAfter (now (table .entry)) (now (out .entry)) ⌝ }
+    ensures answer { λ r. ⌜ writtenSays r ≡ sheetOutcome (networkOf (now (table .entry))) (length (now (out .entry))) ⌝ }
+    ensures text { λ _. ⌜ now (out .exit) ≡ sheetAfter (networkOf (now (table .entry))) (now (out .entry)) ⌝ }
 {
     if !holds(table) {
         return Written::Refused(Refusal::NoNetwork);

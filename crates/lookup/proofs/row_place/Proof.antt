@@ -7,8 +7,8 @@ use Prim.Native.Nat.{_<_}
 use lib.ListN.{length}
 use Rattle.lists.specs.Tests.{passed, failed}
 use Rattle.refusals.specs.Outcomes.{gives}
-use Rattle.tables.specs.Layout.{size}
-use Rattle.tables.specs.Holds.{holds, Holds}
+use Rattle.tables.specs.Layout.{size, rowStart, degree}
+use Rattle.tables.specs.Holds.{holds, Scorable}
 use Rattle.tables.specs.Facts.{holds-facts}
 use Rattle.tables.specs.Calls.{no-network, no-bus, given, placed}
 use Rattle.lookup.proofs.row_place.Statement.{statement}
@@ -19,24 +19,29 @@ held : (c : tie.Else1) → holds (c .before .before .before .args .table .now) �
 held c = passed (c .before .holds .ensures) (c .if1 .left)
 
 -- which has the bus
-has-bus : (c : tie.Else2) → let a = c .before .before .before .before .before .args in Holds (a .table .now) × (a .bus < size (a .table .now))
-has-bus c = (holds-facts _ (held (c .before .before)), omega (arith, c .before .size .ensures .0, c .if2 .left))
+has-bus : (c : tie.Else2) → let a = c .before .before .before .before .before .args in Scorable (a .table .now) × (a .bus < size (a .table .now))
+has-bus c = (holds-facts _ (held (c .before .before)) .shape, omega (arith, c .before .size .ensures .0, c .if2 .left))
 
 returns : tie.Need-returns
-returns c = placed _ _ (sym (no-network _ _ _ (failed (c .before .holds .ensures) (c .if1 .taken))))
+returns c =
+    let a = c .before .before .before .args in
+    placed (a .table .now) (a .bus) (sym (no-network (holds (a .table .now)) (size (a .table .now)) (a .bus) (rowStart (a .table .now) (a .bus), degree (a .table .now) (a .bus)) (failed (c .before .holds .ensures) (c .if1 .taken))))
 
 size-requires : tie.Need-size-requires
-size-requires c κs = let z = holds-facts _ (held c) .complete in omega arith
+size-requires c κs = let z = holds-facts _ (held c) .shape .complete in omega arith
 
 returns-2 : tie.Need-returns-2
-returns-2 c = placed _ _ (sym (no-bus _ _ _ (held (c .before .before)) (c .before .size .ensures .0) (c .if2 .taken)))
+returns-2 c =
+    let a = c .before .before .before .before .before .args in
+    placed (a .table .now) (a .bus) (sym (no-bus (holds (a .table .now)) (size (a .table .now)) (a .bus) (rowStart (a .table .now) (a .bus), degree (a .table .now) (a .bus)) (held (c .before .before)) (c .before .size .ensures .0) (c .if2 .taken)))
 
 returns-3 : tie.Need-returns-3
 returns-3 c =
     let e = c .before .before in
-    placed _ _
+    let a = e .before .before .before .before .before .args in
+    placed (a .table .now) (a .bus)
     (ap₂ (λ start many. gives (start, many)) (c .before .row-start .ensures) (ap length (c .neighbours .ensures))
-    ∙ sym (given _ _ _ (held (e .before .before)) (e .before .size .ensures .0) (e .if2 .left)))
+    ∙ sym (given (holds (a .table .now)) (size (a .table .now)) (a .bus) (rowStart (a .table .now) (a .bus), degree (a .table .now) (a .bus)) (held (e .before .before)) (e .before .size .ensures .0) (e .if2 .left)))
 
 row-start-requires : tie.Need-row-start-requires
 row-start-requires c κs = has-bus c

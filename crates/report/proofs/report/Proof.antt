@@ -10,6 +10,7 @@ use Rattle.tables.specs.Limits.{maxEntries}
 use Rattle.file.specs.Answers.{readingSays}
 use Rattle.reading.specs.Read.{readOutcome}
 use Rattle.reading.specs.Recorded.{recorded}
+use Rattle.two_way.specs.TwoWay.{networkOf}
 use Rattle.whole_sheet.specs.Whole.{wholeSheet}
 use Rattle.report.specs.Printing.{print-sheet, print-refusal}
 use Rattle.report.proofs.report.Statement.{statement}
@@ -31,7 +32,7 @@ returns : tie.Need-returns
 returns c =
     let e = c .before .before .before in
     let f = e .before .before .before .before .before .before .args .file .now in
-    let p = ap wholeSheet (e .before .before .before .read .ensures .1) ∙ print-sheet f (replicate maxEntries 0) room (accepted e) in
+    let p = ap (λ t. wholeSheet (networkOf t)) (e .before .before .before .read .ensures .1) ∙ print-sheet f (replicate maxEntries 0) room (accepted e) in
     ((c .write-sheet .ensures .0 .0 ∙ ap length p, omega (arith, c .write-sheet .ensures .0 .1, c .write-sheet .kept .1 .0)), c .write-sheet .ensures .1 ∙ ap (put _ 0) p)
 
 returns-2 : tie.Need-returns-2

@@ -11,7 +11,7 @@ use Rattle.scorer.proofs.gathered.Statement.{statement}
 use Rattle.scorer.proofs.gathered.Tie as tie
 
 abbrev Inv-loop : tie.InvT-loop
-Inv-loop table over terms bus row sum₀ k₀ sum k = (k ≤ length row) × (sum ≡ summed table bus k)
+Inv-loop table over terms bus row sum₀ k₀ sum k = (k ≤ length row) × (sum ≡ summed table over bus k)
 
 abbrev μ-loop : tie.MeasureT-loop
 μ-loop table over terms bus row sum₀ k₀ sum k = length row - k
@@ -23,13 +23,13 @@ start c = c .before .before .before .before .before .before
 inside : (c : tie.After-entry Inv-loop μ-loop) → c .entry .result < size (start c .args .table .now)
 inside c =
     let p = start c .pre .0 in
-    neighbour-in (p .0) (p .1) (c .before .before .before .before .neighbours .ensures) (c .before .loop-test .taken) (c .entry .ensures .0)
+    neighbour-in (p .0) (p .2) (p .1) (c .before .before .before .before .neighbours .ensures) (c .before .loop-test .taken) (c .entry .ensures .0)
 
 loop-holds : tie.Need-loop-holds Inv-loop μ-loop
 unfolding at
 loop-holds c =
     let s = c .before .before .before in
-    (search needs, sum-start (s .pre .0 .0) (s .pre .0 .1) (c .before .neighbours .ensures) (s .pre .0 .2) (s .pre .1 _ (s .pre .0 .1)))
+    (search needs, sum-start (s .pre .0 .0) (s .pre .0 .2) (s .pre .0 .1) (c .before .neighbours .ensures) (s .pre .1 _ (s .pre .0 .1)))
 
 loop-again : tie.Need-loop-again Inv-loop μ-loop
 unfolding at
@@ -37,13 +37,13 @@ loop-again c =
     let p = c .before in
     let s = start p in (
       search needs,
-      sum-next (s .pre .0 .0) (s .pre .0 .1) (p .before .before .before .before .neighbours .ensures) (p .before .loop-test .taken) (p .entry .ensures .0) (p .before .before .loop .inv .1) (s .pre .1 _ (inside p)),
+      sum-next (s .pre .0 .0) (s .pre .0 .2) (s .pre .0 .1) (p .before .before .before .before .neighbours .ensures) (p .before .loop-test .taken) (p .entry .ensures .0) (p .before .before .loop .inv .1) (s .pre .1 _ (inside p)),
     )
 
 returns : tie.Need-returns Inv-loop μ-loop
 returns c =
     let s = c .before .before .before .before .before in
-    sum-end (s .pre .0 .0) (s .pre .0 .1) (c .before .before .before .neighbours .ensures) (c .before .loop .inv .1) (c .loop-test .left)
+    sum-end (s .pre .0 .0) (s .pre .0 .2) (s .pre .0 .1) (c .before .before .before .neighbours .ensures) (c .before .loop .inv .1) (c .loop-test .left)
 
 mul-sum : tie.Need-mul-sum Inv-loop μ-loop
 mul-sum c = let s = c .before .before in omega (arith, s .pre .0 .1, s .pre .0 .0 .complete .most)
@@ -55,13 +55,13 @@ mul-sum-2 : tie.Need-mul-sum-2 Inv-loop μ-loop
 unfolding at
 mul-sum-2 c =
     let s = c .before .before .before in
-    omega (arith, rest-fits (s .pre .0 .0) (s .pre .0 .1) (c .before .neighbours .ensures) (s .pre .0 .2) (s .pre .1 _ (s .pre .0 .1)))
+    omega (arith, rest-fits (s .pre .0 .0) (s .pre .0 .2) (s .pre .0 .1) (c .before .neighbours .ensures) (s .pre .1 _ (s .pre .0 .1)))
 
 sub-sum : tie.Need-sub-sum Inv-loop μ-loop
 unfolding at
 sub-sum c =
     let s = c .before .before .before in
-    rest-fits (s .pre .0 .0) (s .pre .0 .1) (c .before .neighbours .ensures) (s .pre .0 .2) (s .pre .1 _ (s .pre .0 .1))
+    rest-fits (s .pre .0 .0) (s .pre .0 .2) (s .pre .0 .1) (c .before .neighbours .ensures) (s .pre .1 _ (s .pre .0 .1))
 
 mul-sum-3 : tie.Need-mul-sum-3 Inv-loop μ-loop
 mul-sum-3 c = omega (arith, inside c, start c .pre .0 .0 .complete .most)
@@ -76,7 +76,7 @@ add-sum c =
     let s = start p in
     omega (
       arith,
-      sum-fits (s .pre .0 .0) (s .pre .0 .1) (p .before .before .before .before .neighbours .ensures) (p .before .loop-test .taken) (p .entry .ensures .0) (p .before .before .loop .inv .1) (s .pre .1 _ (inside p)),
+      sum-fits (s .pre .0 .0) (s .pre .0 .2) (s .pre .0 .1) (p .before .before .before .before .neighbours .ensures) (p .before .loop-test .taken) (p .entry .ensures .0) (p .before .before .loop .inv .1) (s .pre .1 _ (inside p)),
     )
 
 pub gathered-spec : {M : Type 1} → statement M

@@ -10,7 +10,7 @@ use Rattle.scorer.proofs.numerator.Statement.{statement}
 use Rattle.scorer.proofs.numerator.Tie as tie
 
 abbrev Inv-loop : tie.InvT-loop
-Inv-loop table over units bus row sum₀ k₀ sum k = (k ≤ length row) × (sum ≡ summed table bus k)
+Inv-loop table over units bus row sum₀ k₀ sum k = (k ≤ length row) × (sum ≡ summed table over bus k)
 
 abbrev μ-loop : tie.MeasureT-loop
 μ-loop table over units bus row sum₀ k₀ sum k = length row - k
@@ -21,35 +21,35 @@ start c = c .before .before .before .before .before .before
 loop-holds : tie.Need-loop-holds Inv-loop μ-loop
 loop-holds c =
     let s = c .before .before .before in
-    (search needs, sum-start (s .pre .0 .0) (s .pre .0 .1) (c .before .neighbours .ensures) (s .pre .0 .2) (c .term .ensures))
+    (search needs, sum-start (s .pre .0 .0) (s .pre .0 .2) (s .pre .0 .1) (c .before .neighbours .ensures) (c .term .ensures))
 
 loop-again : tie.Need-loop-again Inv-loop μ-loop
 loop-again c =
     let p = c .before in
     let s = start p in (
       search needs,
-      sum-next (s .pre .0 .0) (s .pre .0 .1) (p .before .before .before .before .neighbours .ensures) (p .before .loop-test .taken) (p .entry .ensures .0) (p .before .before .loop .inv .1) (c .term2 .ensures),
+      sum-next (s .pre .0 .0) (s .pre .0 .2) (s .pre .0 .1) (p .before .before .before .before .neighbours .ensures) (p .before .loop-test .taken) (p .entry .ensures .0) (p .before .before .loop .inv .1) (c .term2 .ensures),
     )
 
 returns : tie.Need-returns Inv-loop μ-loop
 returns c =
     let s = c .before .before .before .before .before in
-    sum-end (s .pre .0 .0) (s .pre .0 .1) (c .before .before .before .neighbours .ensures) (c .before .loop .inv .1) (c .loop-test .left)
+    sum-end (s .pre .0 .0) (s .pre .0 .2) (s .pre .0 .1) (c .before .before .before .neighbours .ensures) (c .before .loop .inv .1) (c .loop-test .left)
 
 term-requires-2 : tie.Need-term-requires-2 Inv-loop μ-loop
 term-requires-2 c κs =
     let s = start c in
-    ((s .pre .0 .0, neighbour-in (s .pre .0 .0) (s .pre .0 .1) (c .before .before .before .before .neighbours .ensures) (c .before .loop-test .taken) (c .entry .ensures .0)), s .pre .1)
+    ((s .pre .0 .0, neighbour-in (s .pre .0 .0) (s .pre .0 .2) (s .pre .0 .1) (c .before .before .before .before .neighbours .ensures) (c .before .loop-test .taken) (c .entry .ensures .0)), (s .pre .0 .2, s .pre .1))
 
 mul-sum : tie.Need-mul-sum Inv-loop μ-loop
 mul-sum c =
     let s = c .before .before .before in
-    omega (arith, rest-fits (s .pre .0 .0) (s .pre .0 .1) (c .before .neighbours .ensures) (s .pre .0 .2) (c .term .ensures))
+    omega (arith, rest-fits (s .pre .0 .0) (s .pre .0 .2) (s .pre .0 .1) (c .before .neighbours .ensures) (c .term .ensures))
 
 sub-sum : tie.Need-sub-sum Inv-loop μ-loop
 sub-sum c =
     let s = c .before .before .before in
-    rest-fits (s .pre .0 .0) (s .pre .0 .1) (c .before .neighbours .ensures) (s .pre .0 .2) (c .term .ensures)
+    rest-fits (s .pre .0 .0) (s .pre .0 .2) (s .pre .0 .1) (c .before .neighbours .ensures) (c .term .ensures)
 
 add-sum : tie.Need-add-sum Inv-loop μ-loop
 add-sum c =
@@ -57,7 +57,7 @@ add-sum c =
     let s = start p in
     omega (
       arith,
-      sum-fits (s .pre .0 .0) (s .pre .0 .1) (p .before .before .before .before .neighbours .ensures) (p .before .loop-test .taken) (p .entry .ensures .0) (p .before .before .loop .inv .1) (c .term2 .ensures),
+      sum-fits (s .pre .0 .0) (s .pre .0 .2) (s .pre .0 .1) (p .before .before .before .before .neighbours .ensures) (p .before .loop-test .taken) (p .entry .ensures .0) (p .before .before .loop .inv .1) (c .term2 .ensures),
     )
 
 pub numerator-spec : {M : Type 1} → statement M

@@ -2,14 +2,14 @@
 use borrow.Author.Needs.{needs}
 use native.Mathlib.Omega.{arith}
 use mathlib.Core.Bool.{true}
-use mathlib.Core.Path.{_≡_, sym, ap₂, _∙_}
-use Prim.Native.Nat.{_≤_}
+use mathlib.Core.Path.{_≡_}
 use Rattle.lists.specs.Tests.{passed, failed}
-use Rattle.refusals.specs.Outcomes.{gives}
 use Rattle.tables.specs.Holds.{holds}
 use Rattle.tables.specs.Facts.{holds-facts}
-use Rattle.tables.specs.Calls.{no-network, no-bus, given}
-use Rattle.scorer.proofs.Promised.{share-promised}
+use Rattle.two_way.specs.TwoWay.{networkOf}
+use Rattle.two_way.specs.Sound.{held-sound}
+use Rattle.formula.specs.Played.{own-over}
+use Rattle.shares.specs.Promised.{none-held-for, no-such-bus, found}
 use Rattle.scorer.proofs.share.Statement.{statement}
 use Rattle.scorer.proofs.share.Tie as tie
 
@@ -18,34 +18,35 @@ held : (c : tie.Else1) → holds (c .before .before .before .args .table .now) �
 held c = passed (c .before .holds .ensures) (c .if1 .left)
 
 returns : tie.Need-returns
-returns c = share-promised _ _ (sym (no-network _ _ _ (failed (c .before .holds .ensures) (c .if1 .taken))))
+returns c =
+    let a = c .before .before .before .args in
+    none-held-for (networkOf (a .table .now)) (held-sound (a .table .now)) (a .bus) (failed (c .before .holds .ensures) (c .if1 .taken))
 
 size-requires : tie.Need-size-requires
-size-requires c κs = let z = holds-facts _ (held c) .complete in omega arith
+size-requires c κs = let z = holds-facts _ (held c) .shape .complete in omega arith
 
 returns-2 : tie.Need-returns-2
 returns-2 c =
-    let l : c .before .size .result ≤ c .before .before .before .before .before .args .bus = omega (arith, c .if2 .taken) in
-    share-promised _ _ (sym (no-bus _ _ _ (held (c .before .before)) (c .before .size .ensures .0) l))
+    let a = c .before .before .before .before .before .args in
+    no-such-bus (networkOf (a .table .now)) (held-sound (a .table .now)) (a .bus) (held (c .before .before)) (c .before .size .ensures .0) (c .if2 .taken)
 
 returns-3 : tie.Need-returns-3
 returns-3 c =
     let p = c .before .before .before in
     let e = p .before in
-    share-promised _ _
-    (ap₂ (λ x L. gives (x, L)) (c .numerator .ensures) (p .denominator .ensures)
-    ∙ sym (given _ _ _ (held (e .before .before)) (e .before .size .ensures .0) (e .if2 .left)))
+    let a = e .before .before .before .before .before .args in
+    found (networkOf (a .table .now)) (held-sound (a .table .now)) (a .bus) (held (e .before .before)) (e .before .size .ensures .0) (e .if2 .left)
+    (c .numerator .ensures) (p .denominator .ensures)
 
 denominator-requires : tie.Need-denominator-requires
-denominator-requires c κs = holds-facts _ (held (c .before .before))
+denominator-requires c κs = holds-facts _ (held (c .before .before)) .shape
 
 numerator-requires : tie.Need-numerator-requires
 numerator-requires c κs =
     let p = c .before .before in
-    let e = p .before in (
-      (holds-facts _ (held (e .before .before)), omega (arith, e .before .size .ensures .0, e .if2 .left), p .denominator .ensures),
-      rw (← p .denominator .ensures) (c .before .units .ensures),
-    )
+    let e = p .before in
+    let w = holds-facts _ (held (e .before .before)) .shape in
+    ((w, omega (arith, e .before .size .ensures .0, e .if2 .left), own-over w (p .denominator .ensures)), c .before .units .ensures)
 
 pub share-spec : {M : Type 1} → statement M
 share-spec =

@@ -11,12 +11,13 @@ use Rattle.lists.specs.Loops.{by-end, mapBelow-next}
 use Rattle.lists.specs.Range.{length-mapBelow}
 use Rattle.lists.specs.Writes.{put-none, stored-length, stored-entry}
 use Rattle.tables.specs.Layout.{size}
-use Rattle.formula.specs.Formula.{numerator}
+use Rattle.formula.specs.Formula.{numeratorOver}
+use Rattle.two_way.specs.TwoWay.{networkOf}
 use Rattle.scorer.proofs.store.Statement.{statement}
 use Rattle.scorer.proofs.store.Tie as tie
 
 abbrev Inv-loop : tie.InvT-loop
-Inv-loop table over terms numerators₀ n bus₀ numerators bus = (bus ≤ n) × (numerators ≡ put numerators₀ 0 (mapBelow bus (numerator table)))
+Inv-loop table over terms numerators₀ n bus₀ numerators bus = (bus ≤ n) × (numerators ≡ put numerators₀ 0 (mapBelow bus (numeratorOver (networkOf table) over)))
 
 abbrev μ-loop : tie.MeasureT-loop
 μ-loop table over terms numerators₀ n bus₀ numerators bus = n - bus
@@ -26,8 +27,8 @@ start c = c .before .before .before .before
 
 -- the next place, and the slice keeps its length
 module _ (c : tie.At-loop Inv-loop μ-loop) where
-  next : c .loop .bus ≡ 0 + length (mapBelow (c .loop .bus) (numerator (start c .args .table .now)))
-  next = omega (arith, length-mapBelow (c .loop .bus) (numerator (start c .args .table .now)))
+  next : c .loop .bus ≡ 0 + length (mapBelow (c .loop .bus) (numeratorOver (networkOf (start c .args .table .now)) (start c .args .over)))
+  next = omega (arith, length-mapBelow (c .loop .bus) (numeratorOver (networkOf (start c .args .table .now)) (start c .args .over)))
 
   same : length (c .loop .numerators) ≡ length (start c .args .numerators .now)
   same =
@@ -54,10 +55,10 @@ slice-write-numerators c =
 loop-again : tie.Need-loop-again Inv-loop μ-loop
 loop-again c =
     let v = c .before .before in
-    let t = start v .args .table .now in (
+    let x = numeratorOver (networkOf (start v .args .table .now)) (start v .args .over) in (
       search needs,
       stored-entry _ _ _ (v .loop .inv .1) (next v) _ (omega (arith, v .before .size .ensures .0, start v .pre .0 .1))
-          ∙ ap (put _ _) (ap (λ y. mapBelow (v .loop .bus) (numerator t) ++ (y ∷ [])) (c .gathered .ensures) ∙ sym (mapBelow-next (v .loop .bus) (numerator t))),
+          ∙ ap (put _ _) (ap (λ y. mapBelow (v .loop .bus) x ++ (y ∷ [])) (c .gathered .ensures) ∙ sym (mapBelow-next (v .loop .bus) x)),
     )
 
 same-length : tie.Need-same-length Inv-loop μ-loop
@@ -67,7 +68,7 @@ returns : tie.Need-returns Inv-loop μ-loop
 returns c =
     let v = c .before in
     let e = v .before .size .ensures .0 in
-    by-end (λ i. v .loop .numerators ≡ put (start v .args .numerators .now) 0 (mapBelow i (numerator (start v .args .table .now))))
+    by-end (λ i. v .loop .numerators ≡ put (start v .args .numerators .now) 0 (mapBelow i (numeratorOver (networkOf (start v .args .table .now)) (start v .args .over))))
     (v .loop .inv .1) (omega (arith, e)) (omega (arith, e))
 
 pub store-spec : {M : Type 1} → statement M

@@ -4,6 +4,7 @@ use mathlib.Core.Path.{ap, subst}
 use mathlib.Core.List.{List}
 use Prim.Native.Nat.{ℕ}
 use Rattle.refusals.specs.Outcomes.{Outcome}
+use Rattle.two_way.specs.TwoWay.{networkOf}
 use Rattle.shares.specs.Answers.{AllFair}
 use Rattle.scorer.specs.Answers.{sharesSays}
 use Rattle.share_sheet_c.specs.Telling.{refused, still, accepted}
@@ -12,7 +13,7 @@ use Rattle.share_sheet_c.proofs.share_sheet_shares.Tie as tie
 
 -- what is promised of shares, of an answer
 abbrev FairAs : List ℕ → ℕ → List ℕ → Outcome ℕ → Type 0
-FairAs t lent numerators answer = AllFair t lent answer numerators
+FairAs t lent numerators answer = AllFair (networkOf t) lent answer numerators
 
 returns : tie.Need-returns
 returns c =

@@ -2,13 +2,16 @@
 use borrow.Author.Needs.{needs}
 use native.Mathlib.Omega.{arith}
 use mathlib.Core.Bool.{true}
-use mathlib.Core.Path.{_≡_, ap}
+use mathlib.Core.Path.{_≡_, ap, _∙_}
 use Prim.Native.Nat.{suc, _-_, _≤_, _<_}
 use lib.ListN.{length}
 use Rattle.lists.specs.Tests.{passed, failed}
 use Rattle.tables.specs.Layout.{size}
 use Rattle.tables.specs.Holds.{holds, Holds}
 use Rattle.tables.specs.Facts.{holds-facts}
+use Rattle.formula.specs.Formula.{numeratorOver}
+use Rattle.formula.specs.Played.{own-some, own-over}
+use Rattle.two_way.specs.TwoWay.{networkOf}
 use Rattle.sheet.specs.Calls.{heading-read, bus-read, no-network, no-line, as-text}
 use Rattle.sheet.proofs.line.Statement.{statement}
 use Rattle.sheet.proofs.line.Tie as tie
@@ -18,16 +21,16 @@ held : (c : tie.Else1) → holds (c .before .before .before .before .args .table
 held c = passed (c .before .holds .ensures) (c .if1 .left)
 
 returns : tie.Need-returns
-returns c = no-network _ _ _ (failed (c .before .holds .ensures) (c .if1 .taken))
+returns c = no-network (networkOf (c .before .before .before .before .args .table .now)) _ _ (failed (c .before .holds .ensures) (c .if1 .taken))
 
 size-requires : tie.Need-size-requires
-size-requires c κs = let z = holds-facts _ (held c) .complete in omega arith
+size-requires c κs = let z = holds-facts _ (held c) .shape .complete in omega arith
 
 returns-2 : tie.Need-returns-2
-returns-2 c = no-line _ _ _ (held (c .before .before)) (c .before .size .ensures .0) (c .if2 .taken)
+returns-2 c = no-line (networkOf (c .before .before .before .before .before .before .args .table .now)) _ _ (held (c .before .before)) (c .before .size .ensures .0) (c .if2 .taken)
 
 denominator-requires : tie.Need-denominator-requires
-denominator-requires c κs = holds-facts _ (held (c .before .before))
+denominator-requires c κs = holds-facts _ (held (c .before .before)) .shape
 
 -- L is found: the slice holds a network, which has the line
 module _ (d : tie.After-denominator) where
@@ -49,8 +52,8 @@ returns-3 c =
     let h = p .before .before .before in
     let d = h .before .before .before in
     let a = d .before .before .before .before .before .before .before .args in
-    as-text (a .table .now) (a .i) (a .out .now) (held (d .before .before .before)) (d .before .before .size .ensures .0) (has-line d)
-    (heading-read _ (h .before .before .if3 .taken) (h .heading-numbers .ensures)) (p .place .ensures)
+    as-text (networkOf (a .table .now)) (a .i) (a .out .now) (held (d .before .before .before)) (d .before .before .size .ensures .0) (has-line d)
+    (heading-read (networkOf (a .table .now)) (h .before .before .if3 .taken) (h .heading-numbers .ensures)) (p .place .ensures)
 
 -- the line is that of the bus before it
 module _ (e : tie.Else3) where
@@ -63,13 +66,13 @@ module _ (e : tie.Else3) where
 numerator-requires : tie.Need-numerator-requires
 numerator-requires c κs =
     let d = c .before .before .before in
-    ((holding d, has-bus (c .before .before), d .denominator .ensures), rw (← d .denominator .ensures) (c .before .units .ensures))
+    ((holding d .shape, has-bus (c .before .before), own-over (holding d .shape) (d .denominator .ensures)), c .before .units .ensures)
 
 bus-numbers-requires : tie.Need-bus-numbers-requires
 bus-numbers-requires c κs =
     let e = c .before .before .before .before in
     let d = e .before in
-    (holding d, has-bus e, d .denominator .ensures, c .before .numerator .ensures)
+    (holding d .shape, has-bus e, omega (arith, own-some (holding d .shape), d .denominator .ensures))
 
 place-requires-2 : tie.Need-place-requires-2
 place-requires-2 c κs = (omega (arith, ap length (c .before .before .bus-numbers .ensures)), omega arith)
@@ -81,8 +84,9 @@ returns-4 c =
     let e = b .before .before .before .before .before in
     let d = e .before in
     let a = d .before .before .before .before .before .before .before .args in
-    as-text (a .table .now) (a .i) (a .out .now) (held (d .before .before .before)) (d .before .before .size .ensures .0) (has-line d)
-    (bus-read _ (its-bus e) (b .bus-numbers .ensures)) (p .place2 .ensures)
+    as-text (networkOf (a .table .now)) (a .i) (a .out .now) (held (d .before .before .before)) (d .before .before .size .ensures .0) (has-line d)
+    (bus-read (networkOf (a .table .now)) (its-bus e) (b .bus-numbers .ensures)
+    (b .before .before .numerator .ensures ∙ ap (λ L. numeratorOver (networkOf (a .table .now)) L (a .i - 1)) (d .denominator .ensures)) (d .denominator .ensures)) (p .place2 .ensures)
 
 pub line-spec : {M : Type 1} → statement M
 line-spec =

@@ -8,7 +8,7 @@ use lib.ListN.{length}
 use Rattle.lists.specs.Below.{largestBelow}
 use Rattle.lists.specs.Loops.{by-end, largestBelow-rises, largestBelow-stays}
 use Rattle.tables.specs.Layout.{size, degree}
-use Rattle.formula.specs.Formula.{largestDegree}
+use Rattle.formula.specs.Tables.{largestDegree}
 use Rattle.terms.proofs.largest_degree.Statement.{statement}
 use Rattle.terms.proofs.largest_degree.Tie as tie
 

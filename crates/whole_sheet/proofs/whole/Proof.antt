@@ -8,6 +8,7 @@ use lib.ListN.{length, take, replicate, length-replicate}
 use Rattle.lists.specs.Tests.{passed, failed}
 use Rattle.tables.specs.Holds.{holds}
 use Rattle.tables.specs.Facts.{holds-facts}
+use Rattle.two_way.specs.TwoWay.{networkOf}
 use Rattle.whole_sheet.specs.Whole.{wholeSheet}
 use Rattle.whole_sheet.specs.Work.{longestSheet}
 use Rattle.whole_sheet.specs.Calls.{written-front, no-network, as-text}
@@ -22,11 +23,11 @@ write-sheet-requires : tie.Need-write-sheet-requires
 write-sheet-requires c κs = (holds-facts _ (held (c .before)), omega (arith, length-replicate {A = ℕ} longestSheet 0))
 
 -- the sheet was written aside
-aside : (c : tie.After-write-sheet) → take (c .write-sheet .result) (c .write-sheet .last .1 .0) ≡ wholeSheet (c .before .before .before .before .before .before .args .table .now)
+aside : (c : tie.After-write-sheet) → take (c .write-sheet .result) (c .write-sheet .last .1 .0) ≡ wholeSheet (networkOf (c .before .before .before .before .before .before .args .table .now))
 aside c = written-front _ (replicate longestSheet 0) (c .write-sheet .ensures .0 .0) (c .write-sheet .ensures .1)
 
 returns : tie.Need-returns
-returns c = no-network _ _ (failed (c .before .holds .ensures) (c .if1 .taken))
+returns c = no-network (networkOf (c .before .before .before .before .args .table .now)) _ (failed (c .before .holds .ensures) (c .if1 .taken))
 
 slice-aggregate-place : tie.Need-slice-aggregate-place
 slice-aggregate-place c = let w = c .before .before in w .write-sheet .ensures .0 .0 ∙ sym (ap length (aside w))
@@ -36,7 +37,7 @@ returns-2 c =
     let p = c .before .before in
     let w = p .before .before .before .before in
     let a = w .before .before .before .before .before .before .args in
-    as-text (a .table .now) (a .out .now) (held (w .before .before)) (aside w) (p .place .ensures)
+    as-text (networkOf (a .table .now)) (a .out .now) (held (w .before .before)) (aside w) (p .place .ensures)
 
 pub whole-spec : {M : Type 1} → statement M
 whole-spec =

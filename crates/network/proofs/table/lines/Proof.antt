@@ -6,7 +6,7 @@ use Rattle.network.proofs.table.lines.Statement.{statement}
 use Rattle.network.proofs.table.lines.Tie as tie
 
 links-requires : tie.Need-links-requires
-links-requires c κs = rw (c .starts-at .ensures .0) (c .before .before .pre .complete)
+links-requires c κs = rw (c .starts-at .ensures .0) (c .before .before .pre .shape .complete)
 
 returns : tie.Need-returns
 returns c = rw (c .links .ensures, c .before .starts-at .ensures .0) (half _ (c .before .before .before .pre))

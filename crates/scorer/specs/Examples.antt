@@ -11,8 +11,10 @@ use Rattle.game.specs.Game.{ownTerm, neighbourTerm}
 use Rattle.tables.specs.Layout.{rowAt, needs, starts, links, row}
 use Rattle.tables.specs.Holds.{within, complete, fairNeeds, neverFall, shortRows, tidy, tidyRow, tidyRows, soundRows, mirrored, twoWay, holds}
 use Rattle.tables.specs.Examples.{path}
-use Rattle.formula.specs.Formula.{largestDegree, denominator, ownOf, neighbourOf, numerator}
+use Rattle.formula.specs.Tables.{largestDegree, divisorsOf}
+use Rattle.formula.specs.Formula.{numeratorOver}
+use Rattle.two_way.specs.TwoWay.{networkOf}
 use Rattle.shares.specs.Answers.{sharesOutcome, storedNumerators, numeratorsAfter, shareOutcome}
 
 -- a table, entries lent, the answer of Shares, and the entries after it
 record Case : Type 0 where
@@ -38,12 +40,12 @@ cases =
     ∷ case (path 0) (9 ∷ 9 ∷ []) (refuses 11) (9 ∷ 9 ∷ [])
     ∷ []
 
-all-shares : map (λ c. let x = c .lent in case (c .table) x (sharesOutcome (c .table) (length x)) (numeratorsAfter (c .table) x)) cases ≡ cases
-unfolding cases storedNumerators numerator ownOf neighbourOf ownTerm neighbourTerm denominator largestDegree largestBelow lcmAll lcmOf gcdOf mapBelow joinBelow holds twoWay complete within fairNeeds soundRows neverFall shortRows tidyRows tidyRow tidy mirrored rowAt needs starts links row at allBelow
+all-shares : map (λ c. let N = networkOf (c .table) in let x = c .lent in case (c .table) x (sharesOutcome N (length x)) (numeratorsAfter N x)) cases ≡ cases
+unfolding cases storedNumerators numeratorOver ownTerm neighbourTerm divisorsOf largestDegree largestBelow lcmAll lcmOf gcdOf mapBelow joinBelow holds twoWay complete within fairNeeds soundRows neverFall shortRows tidyRows tidyRow tidy mirrored rowAt needs starts links row at allBelow
 all-shares = refl
 
 one-share :
-    (map (shareOutcome (path 3)) (0 ∷ 1 ∷ 2 ∷ 3 ∷ []) ≡ gives (3, 6) ∷ gives (12, 6) ∷ gives (3, 6) ∷ refuses 13 ∷ [])
-    × (map (shareOutcome (path 0)) (0 ∷ 3 ∷ []) ≡ refuses 11 ∷ refuses 11 ∷ [])
-unfolding path numerator ownOf neighbourOf ownTerm neighbourTerm denominator largestDegree largestBelow lcmAll lcmOf gcdOf mapBelow joinBelow holds twoWay complete within fairNeeds soundRows neverFall shortRows tidyRows tidyRow tidy mirrored rowAt needs starts links row at allBelow
+    (map (shareOutcome (networkOf (path 3))) (0 ∷ 1 ∷ 2 ∷ 3 ∷ []) ≡ gives (3, 6) ∷ gives (12, 6) ∷ gives (3, 6) ∷ refuses 13 ∷ [])
+    × (map (shareOutcome (networkOf (path 0))) (0 ∷ 3 ∷ []) ≡ refuses 11 ∷ refuses 11 ∷ [])
+unfolding path numeratorOver ownTerm neighbourTerm divisorsOf largestDegree largestBelow lcmAll lcmOf gcdOf mapBelow joinBelow holds twoWay complete within fairNeeds soundRows neverFall shortRows tidyRows tidyRow tidy mirrored rowAt needs starts links row at allBelow
 one-share = (refl, refl)
