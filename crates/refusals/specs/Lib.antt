@@ -2,4 +2,5 @@ pub mod Numbers
 pub mod Outcomes
 pub mod Examples
 pub mod Causes
+pub mod Due
 pub mod Tells

@@ -1,0 +1,43 @@
+-- How a call's causes decide, one after another: what is answered, and what lent entries hold after it. Assumes nothing.
+use mathlib.Core.Bool.{Bool, true, false}
+use mathlib.Core.List.{List, [], _∷_, _++_}
+use mathlib.Core.Path.{_≡_, refl, sym, ap, _∙_}
+use Prim.Native.Nat.{ℕ}
+use Rattle.refusals.specs.declared.Refusal.{Refusal}
+use Rattle.refusals.specs.Numbers.{numberOf}
+use Rattle.refusals.specs.Outcomes.{Outcome, gives, refuses, Cause, _⇒_, outcome, valuesOr}
+use Rattle.refusals.specs.Causes.{first-refuses, then-decides}
+
+-- where these causes decide, a call that gives these values and stores s is due this answer, and entries that held x hold y after it
+pub record Due {A B : Type 0} (cs : List Cause) (values : A) (s x : B) (answer : Outcome A) (y : B) : Type 0 where
+  pub answered : answer ≡ outcome cs values
+  pub after : y ≡ valuesOr x (outcome cs s)
+
+-- the same of a call that stores nothing
+abbrev pub Answered : {A : Type 0} → List Cause → A → Outcome A → Type 0
+Answered cs values answer = Due {B = Unit {0}} cs values tt tt answer tt
+
+module _ {A B : Type 0} {values : A} {s x : B} where
+  -- no cause is left
+  pub accept : {v : A} {y : B} → v ≡ values → y ≡ s → Due [] values s x (gives v) y
+  accept e f = record { answered = ap gives e; after = f }
+
+  -- a cause that holds refuses, and the entries are kept; one that does not is passed over
+  module _ {t : Bool} {r : Refusal} {cs : List Cause} where
+    pub stop : t ≡ true → Due ((t ⇒ r) ∷ cs) values s x (refuses (numberOf r)) x
+    stop e = record { answered = rw e; after = rw e }
+
+    pub pass : {o : Outcome A} {y : B} → t ≡ false → Due cs values s x o y → Due ((t ⇒ r) ∷ cs) values s x o y
+    pass e d = record { answered = rw e (d .answered); after = rw e (d .after) }
+
+  -- the causes of a stage, then others: what the stage refuses is refused; where it gives a value, the others decide
+  module _ {C : Type 0} (cs : List Cause) {u : C} where
+    pub stage-stop : (ds : List Cause) {k : ℕ} → Answered cs u (refuses k) → Due (cs ++ ds) values s x (refuses k) x
+    stage-stop ds d =
+        let e = sym (d .answered) in
+        record { answered = sym (first-refuses ds u values cs e); after = sym (ap (valuesOr x) (first-refuses ds u s cs e)) }
+
+    pub stage-pass : {ds : List Cause} {w : C} {o : Outcome A} {y : B} → Answered cs u (gives w) → Due ds values s x o y → Due (cs ++ ds) values s x o y
+    stage-pass {ds} d f =
+        let e = sym (d .answered) in
+        record { answered = f .answered ∙ sym (then-decides ds u values cs e); after = f .after ∙ sym (ap (valuesOr x) (then-decides ds u s cs e)) }
