@@ -5,7 +5,7 @@ use mathlib.Core.List.{List}
 use Prim.Native.Nat.{ℕ}
 use lib.ListN.{length}
 use Rattle.lists.specs.Below.{mapBelow}
-use Rattle.game.specs.Game.{reach}
+use Rattle.game.specs.CrowdGame.{reach}
 use Rattle.formula.specs.Network.{Network, turned}
 
 -- held, n, m, reaches, degrees and crowds are what a table of this kind will say; L is the least common multiple of crowd sizes

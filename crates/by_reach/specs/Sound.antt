@@ -10,7 +10,7 @@ use Rattle.lists.specs.Below.{mapBelow, range}
 use Rattle.lists.specs.Counts.{in-length}
 use Rattle.lists.specs.Range.{in-mapBelow, of-mapBelow, in-range, of-range}
 use Rattle.fraction.specs.Lcm.{lcmAll-multiple}
-use Rattle.game.specs.Game.{Crowds}
+use Rattle.game.specs.CrowdGame.{Crowds}
 use Rattle.game.specs.Reach.{reach-on, reach-common}
 use Rattle.tables.specs.Limits.{maxDegree}
 use Rattle.formula.specs.Network.{Sound}

@@ -11,7 +11,7 @@ use Rattle.lists.specs.Places.{in-at}
 use Rattle.lists.specs.Range.{of-range}
 use Rattle.fraction.specs.Cancel.{cancelled}
 use Rattle.fraction.specs.Lowest.{cancelled-same}
-use Rattle.game.specs.Game.{Island, Renumbered}
+use Rattle.game.specs.Parts.{Island, Renumbered}
 use Rattle.game.specs.Islands.{island-total, taken-out-share}
 use Rattle.formula.specs.Network.{Network, denominator, Sound}
 use Rattle.formula.specs.Formula.{numerator}
