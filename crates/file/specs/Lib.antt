@@ -1,2 +1,2 @@
--- What a reading of a file stands for.
+-- What answers on a file stand for.
 pub mod Answers

@@ -1,16 +1,25 @@
 // The network file: where it has what, and whether its counts, its needs and the ends of its records are sound.
+ghost use mathlib.Core.List.{_++_};
 ghost use mathlib.Core.Path.{_≡_};
 ghost use Prim.Native.Nat.{_+_, _*_, _≤_, _<_};
 ghost use lib.ListN.{length};
-ghost use Rattle.tables.specs.Limits.{maxNeed};
-ghost use Rattle.tables.specs.Holds.{within, fairNeeds};
-ghost use Rattle.format.specs.Bytes.{wordAt, busCount, needsEnd, needBytes, records, firstEnd, secondEnd};
-ghost use Rattle.format.specs.Sections.{sectionsOutcome, twoBuses, soundEnds};
+ghost use Rattle.refusals.specs.Outcomes.{outcome};
+ghost use Rattle.tables.specs.Limits.{maxBuses, maxLines};
+ghost use Rattle.tables.specs.Holds.{fairNeeds};
+ghost use Rattle.format.specs.Bytes.{wordAt, busCount, needsEnd, needBytes, lineCount, records, firstEnd, secondEnd};
+ghost use Rattle.format.specs.Sections.{busSectionCauses, lineCountCauses, missingCauses, endCauses, lineSectionCauses, counts, sectionsOutcome, twoBuses, soundEnds};
 ghost use Rattle.format.specs.Sound.{Sound};
-ghost use Rattle.file.specs.Answers.{readingSays};
+ghost use Rattle.file.specs.Answers.{countedSays, readingSays};
 pub use format::Counts;
 use network::Network;
 pub use network::Refusal;
+use network::within;
+
+// A count of a file, or why the file is refused.
+pub enum Counted {
+    Is(usize),
+    Refused(Refusal),
+}
 
 // The counts of a file's network, or why the file is refused.
 pub enum Reading {
@@ -50,23 +59,13 @@ pub fn records(file: &[u8], n: usize) -> &[u8]
     &file[2 + n + 2..file.len()]
 }
 
-// Whether this is a need that a bus may have.
-fn fair_need(need: u8) -> bool
-    ensures { λ b. ⌜ b ≡ within 1 maxNeed need ⌝ }
-{
-    if need < 1 {
-        return false;
-    }
-    need as usize <= Network::NEED
-}
-
 // Whether every need is one that a bus may have.
 fn fair_needs(needs: &[u8]) -> bool
     ensures { λ b. ⌜ b ≡ fairNeeds (now (needs .entry)) ⌝ }
 {
     let mut bus = 0;
     while bus < needs.len() {
-        if !fair_need(needs[bus]) {
+        if !within(1, Network::NEED, needs[bus] as usize) {
             return false;
         }
         bus += 1;
@@ -74,43 +73,76 @@ fn fair_needs(needs: &[u8]) -> bool
     true
 }
 
-// Judges all of a file but what its records say.
-pub fn judge(file: &[u8]) -> Reading
-    ensures { λ r. ⌜ readingSays r ≡ sectionsOutcome (now (file .entry)) ⌝ }
+// The bus count of a file, if that and the needs are sound.
+pub fn bus_section(file: &[u8]) -> Counted
+    ensures { λ r. ⌜ countedSays r ≡ outcome (busSectionCauses (now (file .entry))) (busCount (now (file .entry))) ⌝ }
 {
     if file.len() < 2 {
-        return Reading::Refused(Refusal::FileTooShort);
+        return Counted::Refused(Refusal::FileTooShort);
     }
-    let buses = word(file, 0);
-    if buses < 1 {
-        return Reading::Refused(Refusal::BusCount);
+    let n = word(file, 0);
+    if !within(1, Network::BUSES, n) {
+        return Counted::Refused(Refusal::BusCount);
     }
-    if Network::BUSES < buses {
-        return Reading::Refused(Refusal::BusCount);
+    if file.len() < 2 + n {
+        return Counted::Refused(Refusal::FileTooShort);
     }
-    let needs_end = 2 + buses;
-    if file.len() < needs_end {
-        return Reading::Refused(Refusal::FileTooShort);
+    if !fair_needs(needs(file, n)) {
+        return Counted::Refused(Refusal::Need);
     }
-    if !fair_needs(needs(file, buses)) {
-        return Reading::Refused(Refusal::Need);
+    Counted::Is(n)
+}
+
+// The line count of a file of n buses, if it is sound.
+pub fn line_count(file: &[u8], n: usize) -> Counted
+    requires { ⌜ (n ≡ busCount (now file)) × (n ≤ maxBuses) ⌝ }
+    ensures { λ r. ⌜ countedSays r ≡ outcome (lineCountCauses (now (file .entry))) (lineCount (now (file .entry))) ⌝ }
+{
+    let from = 2 + n;
+    if file.len() < from + 2 {
+        return Counted::Refused(Refusal::FileTooShort);
     }
-    let records = needs_end + 2;
-    if file.len() < records {
-        return Reading::Refused(Refusal::FileTooShort);
+    let m = word(file, from);
+    if !within(0, Network::LINES, m) {
+        return Counted::Refused(Refusal::LineCount);
     }
-    let lines = word(file, needs_end);
-    if Network::LINES < lines {
-        return Reading::Refused(Refusal::LineCount);
-    }
-    let end = records + 4 * lines;
+    Counted::Is(m)
+}
+
+// Judges where a file of n buses and m lines ends.
+fn judge_end(file: &[u8], n: usize, m: usize) -> Reading
+    requires { ⌜ (n ≡ busCount (now file)) × (n ≤ maxBuses) × (m ≡ lineCount (now file)) × (m ≤ maxLines) ⌝ }
+    ensures { λ r. ⌜ readingSays r ≡ outcome (missingCauses (now (file .entry)) ++ endCauses (now (file .entry))) (counts (now (file .entry))) ⌝ }
+{
+    let end = 2 + n + 2 + 4 * m;
     if file.len() < end {
         return Reading::Refused(Refusal::FileTooShort);
     }
     if end < file.len() {
         return Reading::Refused(Refusal::FileTooLong);
     }
-    Reading::Accepted(Counts { buses, lines })
+    Reading::Accepted(Counts { buses: n, lines: m })
+}
+
+// Judges what follows the needs of a file of n buses.
+fn judge_lines(file: &[u8], n: usize) -> Reading
+    requires { ⌜ (n ≡ busCount (now file)) × (n ≤ maxBuses) ⌝ }
+    ensures { λ r. ⌜ readingSays r ≡ outcome (lineSectionCauses (now (file .entry))) (counts (now (file .entry))) ⌝ }
+{
+    match line_count(file, n) {
+        Counted::Refused(cause) => Reading::Refused(cause),
+        Counted::Is(m) => judge_end(file, n, m),
+    }
+}
+
+// Judges all of a file but what its records say.
+pub fn judge(file: &[u8]) -> Reading
+    ensures { λ r. ⌜ readingSays r ≡ sectionsOutcome (now (file .entry)) ⌝ }
+{
+    match bus_section(file) {
+        Counted::Refused(cause) => Reading::Refused(cause),
+        Counted::Is(n) => judge_lines(file, n),
+    }
 }
 
 // Record k.

@@ -1,7 +1,7 @@
 -- Which files have sound sections: refusals 1 to 5, in file order, and the test of record ends that 6 rests on.
 -- Definitions only. Assumes nothing.
 use mathlib.Core.Bool.{Bool, not, _&&_}
-use mathlib.Core.List.{List, [], _∷_}
+use mathlib.Core.List.{List, [], _∷_, _++_}
 use Prim.Native.Nat.{ℕ}
 use lib.Dec.{ltb, eqb}
 use lib.ListN.{length}
@@ -21,18 +21,33 @@ endsBefore i f = ltb (length f) i
 unfoldable pub goesOn : ℕ → List ℕ → Bool
 goesOn i f = ltb i (length f)
 
--- in file order: bus count complete, its range, needs complete, their range, line count complete, its range, records complete, end of file
-abbrev pub sectionCauses : List ℕ → List Cause
-sectionCauses f =
+-- bus count complete, its range, needs complete, their range
+abbrev pub busSectionCauses : List ℕ → List Cause
+busSectionCauses f =
     (endsBefore 2 f ⇒ FileTooShort)
     ∷ (not (within 1 maxBuses (busCount f)) ⇒ BusCount)
     ∷ (endsBefore (needsEnd f) f ⇒ FileTooShort)
     ∷ (not (fairNeeds (needBytes f)) ⇒ Need)
-    ∷ (endsBefore (recordsAt f) f ⇒ FileTooShort)
-    ∷ (not (within 0 maxLines (lineCount f)) ⇒ LineCount)
-    ∷ (endsBefore (fileEnd f) f ⇒ FileTooShort)
-    ∷ (goesOn (fileEnd f) f ⇒ FileTooLong)
     ∷ []
+
+-- line count complete, its range
+abbrev pub lineCountCauses : List ℕ → List Cause
+lineCountCauses f = (endsBefore (recordsAt f) f ⇒ FileTooShort) ∷ (not (within 0 maxLines (lineCount f)) ⇒ LineCount) ∷ []
+
+-- records complete
+abbrev pub missingCauses : List ℕ → List Cause
+missingCauses f = (endsBefore (fileEnd f) f ⇒ FileTooShort) ∷ []
+
+-- end of file
+abbrev pub endCauses : List ℕ → List Cause
+endCauses f = (goesOn (fileEnd f) f ⇒ FileTooLong) ∷ []
+
+-- behind the needs; and all, in file order
+abbrev pub lineSectionCauses : List ℕ → List Cause
+lineSectionCauses f = lineCountCauses f ++ missingCauses f ++ endCauses f
+
+abbrev pub sectionCauses : List ℕ → List Cause
+sectionCauses f = busSectionCauses f ++ lineSectionCauses f
 
 -- n and m
 abbrev pub counts : List ℕ → Counts

@@ -1,7 +1,7 @@
 -- What a file with sound sections satisfies, and that each test of record ends passes exactly where its facts hold: `…-facts` and `…-test`.
 -- Assumes nothing.
 use mathlib.Core.Bool.{true, not, _&&_}
-use mathlib.Core.List.{List}
+use mathlib.Core.List.{List, _++_}
 use mathlib.Core.Path.{_≡_}
 use Prim.Native.Nat.{ℕ, _*_, _≤_, _<_}
 use native.Mathlib.Nat.{le-antisymm}
@@ -12,39 +12,49 @@ use lib.ListN.{length}
 use Rattle.lists.specs.Tests.{and-left, and-right}
 use Rattle.lists.specs.Loops.{allBelow-at, allBelow-by}
 use Rattle.lists.specs.Places.{length-part}
-use Rattle.refusals.specs.Outcomes.{gives}
-use Rattle.refusals.specs.Causes.{no-cause}
+use Rattle.refusals.specs.Causes.{NoneHolds, none-both}
 use Rattle.tables.specs.Limits.{maxBuses, maxLines, maxBytes}
 use Rattle.tables.specs.Holds.{fairNeeds}
 use Rattle.tables.specs.Facts.{within-facts}
-use Rattle.format.specs.declared.Counts.{Counts}
 use Rattle.format.specs.Bytes.{busCount, needsEnd, needBytes, lineCount, recordsAt, fileEnd, records, firstEnd, secondEnd}
-use Rattle.format.specs.Sections.{endsBefore, goesOn, sectionCauses, counts, sectionsOutcome, twoBuses, soundEnds}
+use Rattle.format.specs.Sections.{endsBefore, goesOn, busSectionCauses, lineCountCauses, missingCauses, endCauses, lineSectionCauses, sectionCauses, twoBuses, soundEnds}
 
 -- ---- the sections
 
-pub record Sound (f : List ℕ) : Type 0 where
+-- what a file has whose first section is sound
+pub record SoundBuses (f : List ℕ) : Type 0 where
   pub some : 1 ≤ busCount f
   pub buses : busCount f ≤ maxBuses
+  pub complete : needsEnd f ≤ length f
   pub needs : fairNeeds (needBytes f) ≡ true
+
+-- and whose sections all are
+pub record Sound (f : List ℕ) : Type 0 where
+  pub first : SoundBuses f
   pub lines : lineCount f ≤ maxLines
   pub size : length f ≡ fileEnd f
 
--- a file that no cause refuses
-pub sections-sound : (f : List ℕ) {c : Counts} → sectionsOutcome f ≡ gives c → Sound f × (c ≡ counts f)
-unfolding endsBefore goesOn
-sections-sound f e =
-    let z = no-cause (sectionCauses f) (counts f) e in
-    let n = within-facts 1 maxBuses (busCount f) (not-false _ (z .0 .1 .0)) in (
-      record {
-        some = n .0;
-        buses = n .1;
-        needs = not-false _ (z .0 .1 .1 .1 .0);
-        lines = within-facts 0 maxLines (lineCount f) (not-false _ (z .0 .1 .1 .1 .1 .1 .0)) .1;
-        size = le-antisymm (ltb-false _ _ (z .0 .1 .1 .1 .1 .1 .1 .1 .0)) (ltb-false _ _ (z .0 .1 .1 .1 .1 .1 .1 .0));
-      },
-      z .1,
-    )
+-- where none of a stage's causes holds
+module _ (f : List ℕ) where
+  pub buses-passed : NoneHolds (busSectionCauses f) → SoundBuses f
+  unfolding endsBefore
+  buses-passed z =
+      let n = within-facts 1 maxBuses (busCount f) (not-false _ (z .1 .0)) in
+      record { some = n .0; buses = n .1; complete = ltb-false _ _ (z .1 .1 .0); needs = not-false _ (z .1 .1 .1 .0) }
+
+  pub lines-passed : NoneHolds (lineCountCauses f) → lineCount f ≤ maxLines
+  lines-passed z = within-facts 0 maxLines (lineCount f) (not-false _ (z .1 .0)) .1
+
+  pub end-passed : NoneHolds (missingCauses f ++ endCauses f) → length f ≡ fileEnd f
+  unfolding endsBefore goesOn
+  end-passed z = le-antisymm (ltb-false _ _ (z .1 .0)) (ltb-false _ _ (z .0))
+
+  -- a file that no cause refuses
+  pub sections-passed : NoneHolds (sectionCauses f) → Sound f
+  sections-passed z =
+      let a = none-both (busSectionCauses f) (lineSectionCauses f) z in
+      let b = none-both (lineCountCauses f) (missingCauses f ++ endCauses f) (a .1) in
+      record { first = buses-passed (a .0); lines = lines-passed (b .0); size = end-passed (b .1) }
 
 module _ {f : List ℕ} (s : Sound f) where
   pub length-needBytes : length (needBytes f) ≡ busCount f
@@ -57,7 +67,7 @@ module _ {f : List ℕ} (s : Sound f) where
 
   -- no file is longer than the limit says
   pub bytes-few : length f ≤ maxBytes
-  bytes-few = omega (arith, s .size, s .buses, s .lines)
+  bytes-few = omega (arith, s .size, s .first .buses, s .lines)
 
 -- ---- the ends of records
 

@@ -1,7 +1,7 @@
 -- Laws of Boolean tests. Assumes nothing.
 use mathlib.Core.Bool.{Bool, true, false, not, _&&_, _||_, true≢false}
 use mathlib.Core.Logic.{_⊎_, inl, inr}
-use mathlib.Core.Path.{_≡_, refl, sym, _∙_}
+use mathlib.Core.Path.{_≡_, refl, sym, ap, _∙_}
 use Prim.Native.Nat.{ℕ}
 use lib.Dec.{eqb}
 use borrow.Author.Tests.{eqb-true, eq-eqb, not-true, not-false}
@@ -32,6 +32,9 @@ failed e h = sym e ∙ not-true _ h
 
 pub passed : {r b : Bool} → r ≡ b → not r ≡ false → b ≡ true
 passed e h = sym e ∙ not-false _ h
+
+pub negated : {r b x : Bool} → r ≡ b → not r ≡ x → not b ≡ x
+negated e h = sym (ap not e) ∙ h
 
 pub and-both : (a b : Bool) → a ≡ true → b ≡ true → (a && b) ≡ true
 and-both a b p q = rw (p, q)

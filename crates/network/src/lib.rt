@@ -1,11 +1,22 @@
 // Networks: their limits, and what a line table has where. A network is a line table in a lent slice.
 ghost use mathlib.Core.Path.{_≡_};
 ghost use Rattle.tables.specs.Limits.{maxBuses, maxDegree, maxNeed, maxLines, maxEntries, maxBytes};
+ghost use Rattle.tables.specs.Holds.{within};
 
 pub mod rows;
 pub mod table;
 
 pub use refusals::Refusal;
+
+// Whether x is from a to b.
+pub fn within(a: usize, b: usize, x: usize) -> bool
+    ensures { λ r. ⌜ r ≡ within a b x ⌝ }
+{
+    if x < a {
+        return false;
+    }
+    x <= b
+}
 
 // The limits by name, for callers that cannot cite the constants of `Network`.
 pub struct Limits {

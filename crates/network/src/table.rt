@@ -2,7 +2,8 @@
 ghost use mathlib.Core.Path.{_≡_};
 ghost use Prim.Native.Nat.{_+_, _≤_, _<_};
 ghost use lib.ListN.{length};
-ghost use Rattle.tables.specs.Layout.{size, needs, starts, links, startsAt, row, rowStart, lines};
+ghost use Rattle.tables.specs.Limits.{maxBuses, maxLines};
+ghost use Rattle.tables.specs.Layout.{size, needs, starts, links, startsAt, row, rowStart, lines, tableEntries};
 ghost use Rattle.tables.specs.Holds.{Complete, Scorable, Holds};
 use super::rows::entry;
 use super::rows::row_at;
@@ -68,6 +69,14 @@ pub fn row_start(table: &[u16], bus: usize) -> usize
 {
     let h = starts_at(table);
     h + size(table) + 1 + entry(starts(table, h), bus)
+}
+
+// How many entries the table of n buses and m lines has.
+pub fn entries(n: usize, m: usize) -> usize
+    requires { ⌜ (n ≤ maxBuses) × (m ≤ maxLines) ⌝ }
+    ensures { λ r. ⌜ r ≡ tableEntries n m ⌝ }
+{
+    2 * n + 2 + 2 * m
 }
 
 // How many lines: half as many as neighbour numbers.

@@ -1,48 +1,51 @@
--- What the stores of Read leave: the file's table, followed by the old rest. Assumes nothing.
-use mathlib.Core.Bool.{true, false}
+-- What the stores of Read leave: a table, followed by the old rest. Assumes nothing.
 use mathlib.Core.List.{List, _∷_, _++_}
-use mathlib.Core.Path.{_≡_, sym, ap, _∙_}
-use Prim.Native.Nat.{ℕ, _+_, _*_, _≤_, _<_}
+use mathlib.Core.Bool.{false}
+use mathlib.Core.Path.{_≡_, ap, subst, _∙_}
+use Prim.Native.Nat.{ℕ, _+_, _*_, _<_}
 use native.Mathlib.Omega.{arith}
-use lib.ListN.{length, drop}
+use lib.ListN.{length}
 use Rattle.lists.specs.Lists.{put}
+use Rattle.lists.specs.Below.{joinBelow}
 use Rattle.lists.specs.Range.{joinBelow-same}
-use Rattle.lists.specs.Writes.{put-front, stored-list}
-use Rattle.tables.specs.Limits.{maxBuses}
+use Rattle.lists.specs.Writes.{stored-list}
+use Rattle.refusals.specs.Outcomes.{Outcome}
+use Rattle.refusals.specs.Due.{Due}
 use Rattle.tables.specs.Layout.{laid, tableOf}
 use Rattle.tables.specs.Laid.{length-laid, laid-same}
+use Rattle.format.specs.declared.Counts.{Counts}
+use Rattle.format.specs.Sound.{ends-facts}
 use Rattle.rows.specs.Held.{held}
-use Rattle.format.specs.Bytes.{needBytes}
-use Rattle.format.specs.Sections.{soundEnds}
-use Rattle.format.specs.Sound.{Sound, length-needBytes, ends-facts}
 use Rattle.records.specs.Records.{neighbours, repeated}
-use Rattle.records.specs.Filling.{Filled}
+use Rattle.records.specs.Filling.{SoundRecords, Filled}
 use Rattle.records.specs.Pairs.{rows-length}
-use Rattle.reading.specs.Read.{fileTable, storedTable}
-use Rattle.reading.specs.Deciding.{Parts}
+use Rattle.reading.specs.Read.{roomCauses}
+use Rattle.reading.specs.Stages.{RoomDue}
 
--- n buses, m lines and the records r of the file f, whose rows are in the slots, and a slice that holds t
-module _ (f t : List ℕ) {n m : ℕ} {r : List ℕ} (p : Parts f n m r) (s : Sound f) {slots counts : List ℕ} (w : Filled n m r slots counts) where
-  few : n ≤ maxBuses
-  few = omega (arith, s .buses, p .buses)
+-- rows that have two numbers for each of m lines take so many entries behind the needs
+pub laid-length : (n : ℕ) (rows : ℕ → List ℕ) (m : ℕ) → length (joinBelow n rows) ≡ 2 * m → length (laid n rows) ≡ n + 1 + 2 * m
+laid-length n rows m e = omega (arith, length-laid rows n, e)
 
-  each : (i : ℕ) → i < n → held slots counts i ≡ neighbours n m r i
-  each i b = w .each i (omega (arith, few))
+-- the bus count and the needs q were written into a slice that held t, and then the rows
+pub built : (t q : List ℕ) (rows : ℕ → List ℕ) {t₁ t₂ : List ℕ} → t₁ ≡ put t 0 (length q ∷ q) → t₂ ≡ put t₁ (1 + length q) (laid (length q) rows)
+    → t₂ ≡ put t 0 (tableOf (length q) q rows)
+unfolding tableOf
+built t q rows u v = v ∙ stored-list t 0 (length q ∷ q) u (omega arith) (laid (length q) rows) (omega arith)
 
-  pub laid-length : soundEnds n m r ≡ true → repeated m r ≡ false → length (laid n (held slots counts)) ≡ n + 1 + 2 * m
-  laid-length sound once =
-      length-laid (held slots counts) n
-      ∙ ap (λ k. n + 1 + k) (ap length (joinBelow-same (held slots counts) (neighbours n m r) n each) ∙ rows-length n m r (ends-facts n m r sound) once)
+-- the rows of m sound records of buses with the needs q, no pair of which repeats, are in the slots
+module _ (q : List ℕ) {m : ℕ} {r slots counts : List ℕ} (g : SoundRecords (length q) m r) (once : repeated m r ≡ false) (w : Filled (length q) m r slots counts) where
+  each : (i : ℕ) → i < length q → held slots counts i ≡ neighbours (length q) m r i
+  each i b = w .each i (omega (arith, g .buses))
 
-  -- the bus count and the needs q, and then the rows, were written into the slice
-  pub built : {q t₁ t₂ : List ℕ} → q ≡ needBytes f → t₁ ≡ put t 0 (length q ∷ q) → t₂ ≡ put t₁ (1 + n) (laid n (held slots counts)) → t₂ ≡ storedTable f t
-  unfolding storedTable fileTable tableOf
-  built {q} e u v =
-      let long : length q ≡ n = ap length e ∙ length-needBytes s ∙ sym (p .buses) in
-      let front = length q ∷ q in
-      let file : front ++ laid n (neighbours n m r) ≡ fileTable f = rw (long, p .buses, p .lines, e, p .pairs) in
-      v
-      ∙ stored-list t 0 front u (omega (arith, long)) (laid n (held slots counts)) (omega arith)
-      ∙ put-front t (front ++ laid n (held slots counts))
-      ∙ ap (λ l. l ++ drop (length l) t)
-      (ap (λ l. front ++ l) (laid-same (held slots counts) (neighbours n m r) n each) ∙ file)
+  -- they have two numbers for each line
+  pub rows-numbers : length (joinBelow (length q) (held slots counts)) ≡ 2 * m
+  rows-numbers =
+      ap length (joinBelow-same (held slots counts) (neighbours (length q) m r) (length q) each)
+      ∙ rows-length (length q) m r (ends-facts (length q) m r (g .sound)) once
+
+  -- and to store them is to store what the records say
+  pub rows-stored : (t : List ℕ) {o : Outcome Counts} {t′ : List ℕ} → RoomDue q m (held slots counts) t o t′ → RoomDue q m (neighbours (length q) m r) t o t′
+  unfolding tableOf
+  rows-stored t {o} {t′} d =
+      subst (λ l. Due (roomCauses (length q) m (length t)) (record { buses = length q; lines = m }) (put t 0 ((length q ∷ q) ++ l)) t o t′)
+      (laid-same (held slots counts) (neighbours (length q) m r) (length q) each) d

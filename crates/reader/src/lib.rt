@@ -1,23 +1,26 @@
 // Read: a network file into a lent line table.
 ghost use mathlib.Core.List.{_∷_};
 ghost use mathlib.Core.Path.{_≡_};
-ghost use Prim.Native.Nat.{_+_, _≤_};
+ghost use Prim.Native.Nat.{_+_, _*_, _≤_};
 ghost use lib.ListN.{length};
 ghost use Rattle.lists.specs.Lists.{put};
-ghost use Rattle.refusals.specs.Outcomes.{outcome, valuesOr};
-ghost use Rattle.tables.specs.Limits.{maxBuses};
-ghost use Rattle.format.specs.Bytes.{busCount, lineCount};
-ghost use Rattle.format.specs.Sections.{counts};
-ghost use Rattle.format.specs.Sound.{Sound};
+ghost use Rattle.lists.specs.Below.{joinBelow};
+ghost use Rattle.tables.specs.Limits.{maxBuses, maxLines};
 ghost use Rattle.file.specs.Answers.{readingSays};
-ghost use Rattle.reading.specs.Read.{recordCauses, readOutcome, storedTable, tableAfter};
+ghost use Rattle.rows.specs.Held.{held, Rows};
+ghost use Rattle.records.specs.Filling.{SoundRecords};
+ghost use Rattle.reading.specs.Read.{readOutcome, tableAfter};
+ghost use Rattle.reading.specs.Stages.{RoomDue, LinesDue, RecordsDue};
 pub use file::Counts;
 pub use file::Reading;
 use file::judge;
 use file::needs;
 use file::records;
 use file::sound_ends;
+use network::Network;
 pub use network::Refusal;
+use network::table::entries;
+use records::Inserted;
 use records::crowded;
 use records::fill;
 use rows::blank_counts;
@@ -37,30 +40,54 @@ fn store_needs(needs: &[u8], table: &mut [u16])
     }
 }
 
-// Judges the records of a file whose sections are sound, and stores its table if they are.
-fn read_records(file: &[u8], n: usize, m: usize, table: &mut [u16]) -> Reading
-    requires { ⌜ (n ≡ busCount (now file)) × (m ≡ lineCount (now file)) × Sound (now file) ⌝ }
-    ensures { λ r. ⌜ readingSays r ≡ outcome (recordCauses (now (file .entry)) (length (now (table .entry)))) (counts (now (file .entry))) ⌝ }
-    ensures { λ _. ⌜ now (table .exit) ≡ valuesOr (now (table .entry)) (outcome (recordCauses (now (file .entry)) (length (now (table .entry)))) (storedTable (now (file .entry)) (now (table .entry)))) ⌝ }
+// Stores the table of buses with these needs and of m lines, whose neighbours stand in the slots.
+fn store_table(
+    needs: &[u8],
+    m: usize,
+    slots: &[u16],
+    counts: &[u16; Network::BUSES],
+    table: &mut [u16],
+) -> Reading
+    requires { ⌜ (length (now needs) ≤ maxBuses) × (m ≤ maxLines) × Rows (now slots) (now counts) ⌝ }
+    requires { ⌜ length (joinBelow (length (now needs)) (held (now slots) (now counts))) ≡ 2 * m ⌝ }
+    ensures { λ r. ⌜ RoomDue (now (needs .entry)) m (held (now (slots .entry)) (now (counts .entry))) (now (table .entry)) (readingSays r) (now (table .exit)) ⌝ }
 {
-    let records = records(file, n);
-    if !sound_ends(records, n, m) {
-        return Reading::Refused(Refusal::LineEnds);
+    let n = needs.len();
+    if table.len() < entries(n, m) {
+        return Reading::Refused(Refusal::TableTooShort);
     }
+    store_needs(needs, table);
+    store(slots, counts, n, table, 1 + n);
+    Reading::Accepted(Counts { buses: n, lines: m })
+}
+
+// Reads m records whose ends are sound, of buses with these needs.
+fn read_lines(needs: &[u8], records: &[u8], m: usize, table: &mut [u16]) -> Reading
+    requires { ⌜ (4 * m ≤ length (now records)) × SoundRecords (length (now needs)) m (now records) ⌝ }
+    ensures { λ r. ⌜ LinesDue (now (needs .entry)) m (now (records .entry)) (now (table .entry)) (readingSays r) (now (table .exit)) ⌝ }
+{
+    let n = needs.len();
     if crowded(records, n, m) {
         return Reading::Refused(Refusal::CrowdedBus);
     }
     let mut slots = blank_slots();
     let mut counts = blank_counts();
-    if !fill(records, n, m, &mut slots, &mut counts) {
-        return Reading::Refused(Refusal::RepeatedLine);
+    match fill(records, n, m, &mut slots, &mut counts) {
+        Inserted::Full => Reading::Refused(Refusal::CrowdedBus),
+        Inserted::Present => Reading::Refused(Refusal::RepeatedLine),
+        Inserted::Added => store_table(needs, m, &slots, &counts, table),
     }
-    if table.len() < 2 * n + 2 + 2 * m {
-        return Reading::Refused(Refusal::TableTooShort);
+}
+
+// Reads m records, of buses with these needs.
+fn read_records(needs: &[u8], records: &[u8], m: usize, table: &mut [u16]) -> Reading
+    requires { ⌜ (length (now needs) ≤ maxBuses) × (m ≤ maxLines) × (4 * m ≤ length (now records)) ⌝ }
+    ensures { λ r. ⌜ RecordsDue (now (needs .entry)) m (now (records .entry)) (now (table .entry)) (readingSays r) (now (table .exit)) ⌝ }
+{
+    if !sound_ends(records, needs.len(), m) {
+        return Reading::Refused(Refusal::LineEnds);
     }
-    store_needs(needs(file, n), table);
-    store(&slots, &counts, n, table, 1 + n);
-    Reading::Accepted(Counts { buses: n, lines: m })
+    read_lines(needs, records, m, table)
 }
 
 // Reads a file into a lent slice.
@@ -70,6 +97,9 @@ pub fn read(file: &[u8], table: &mut [u16]) -> Reading
 {
     match judge(file) {
         Reading::Refused(cause) => Reading::Refused(cause),
-        Reading::Accepted(counts) => read_records(file, counts.buses, counts.lines, table),
+        Reading::Accepted(counts) => {
+            let n = counts.buses;
+            read_records(needs(file, n), records(file, n), counts.lines, table)
+        }
     }
 }

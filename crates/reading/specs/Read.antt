@@ -3,34 +3,38 @@
 use mathlib.Core.Bool.{not}
 use mathlib.Core.List.{List, [], _∷_, _++_}
 use mathlib.Core.Path.{_≡_}
-use Prim.Native.Nat.{ℕ, _+_, _*_, _<_}
+use Prim.Native.Nat.{ℕ, _<_}
 use lib.Dec.{ltb}
 use lib.ListN.{length, drop}
 use Rattle.lists.specs.Lists.{has}
 use Rattle.refusals.specs.declared.Refusal.the-variants.{LineEnds, CrowdedBus, RepeatedLine, TableTooShort}
 use Rattle.refusals.specs.Outcomes.{Outcome, Cause, _⇒_, outcome, valuesOr}
-use Rattle.tables.specs.Layout.{size, needs, row, lines, tableOf}
+use Rattle.tables.specs.Layout.{size, needs, row, lines, tableEntries, tableOf}
 use Rattle.tables.specs.Holds.{Holds}
 use Rattle.format.specs.declared.Counts.{Counts}
 use Rattle.format.specs.Bytes.{busCount, needBytes, lineCount, records}
 use Rattle.format.specs.Sections.{sectionCauses, counts, soundEnds}
 use Rattle.records.specs.Records.{joined, neighbours, crowded, repeated}
 
--- each over all records before the next: a wrong end, a crowded bus, a repeated pair; then too few entries lent
-abbrev pub recordCauses : List ℕ → ℕ → List Cause
-recordCauses f lent =
-    let n = busCount f in
-    let m = lineCount f in
-    let r = records f in
-    (not (soundEnds n m r) ⇒ LineEnds)
-    ∷ (crowded n m r ⇒ CrowdedBus)
-    ∷ (repeated m r ⇒ RepeatedLine)
-    ∷ (ltb lent (2 * n + 2 + 2 * m) ⇒ TableTooShort)
-    ∷ []
+-- a record names a bus of n or above, or one bus twice
+abbrev pub endsCauses : ℕ → ℕ → List ℕ → List Cause
+endsCauses n m r = (not (soundEnds n m r) ⇒ LineEnds) ∷ []
+
+-- a bus stands in too many records; two records name the same pair
+abbrev pub degreeCauses : ℕ → ℕ → List ℕ → List Cause
+degreeCauses n m r = (crowded n m r ⇒ CrowdedBus) ∷ (repeated m r ⇒ RepeatedLine) ∷ []
+
+-- too few entries are lent for the table
+abbrev pub roomCauses : ℕ → ℕ → ℕ → List Cause
+roomCauses n m lent = (ltb lent (tableEntries n m) ⇒ TableTooShort) ∷ []
+
+-- each over all records before the next
+abbrev pub recordCauses : ℕ → ℕ → List ℕ → ℕ → List Cause
+recordCauses n m r lent = endsCauses n m r ++ degreeCauses n m r ++ roomCauses n m lent
 
 -- Read checks in file order, then the records
 abbrev pub readCauses : List ℕ → ℕ → List Cause
-readCauses f lent = sectionCauses f ++ recordCauses f lent
+readCauses f lent = sectionCauses f ++ recordCauses (busCount f) (lineCount f) (records f) lent
 
 -- n and m, or the number of the first cause
 abbrev pub readOutcome : List ℕ → ℕ → Outcome Counts

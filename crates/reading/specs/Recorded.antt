@@ -9,7 +9,7 @@ use Rattle.lists.specs.Lists.{has}
 use Rattle.lists.specs.Below.{joinBelow}
 use Rattle.refusals.specs.Outcomes.{gives, refuses, valuesOr}
 use Rattle.refusals.specs.Causes.{refuses-any}
-use Rattle.tables.specs.Layout.{tableOf}
+use Rattle.tables.specs.Layout.{tableEntries, tableOf}
 use Rattle.tables.specs.Holds.{Holds}
 use Rattle.tables.specs.Answers.{Alike}
 use Rattle.tables.specs.Facts.{fair-facts}
@@ -61,7 +61,7 @@ module _ (f t : List ℕ) {c : Counts} (e : readOutcome f (length t) ≡ gives c
 
   held : Holds (tableOf n q rows ++ rest)
   held =
-      made-holds n q rows rest long (whole f t e .some) (whole f t e .buses) (fair-facts q (whole f t e .needs))
+      made-holds n q rows rest long (whole f t e .first .some) (whole f t e .first .buses) (fair-facts q (whole f t e .first .needs))
       (λ i b. neighbours-tidy n m r ends i) (neighbours-short n m r ends (none-crowded f t e))
       (λ i j b c. neighbours-joined n m r ends i j ∙ joined-sym m r i j ∙ sym (neighbours-joined n m r ends j i))
 
@@ -69,7 +69,7 @@ module _ (f t : List ℕ) {c : Counts} (e : readOutcome f (length t) ≡ gives c
   numbers = rows-length n m r (ends-facts n m r ends) (none-repeated f t e)
 
   -- the table has as many entries as refusal 10 asks for
-  pub entries : length (fileTable f) ≡ 2 * n + 2 + 2 * m
+  pub entries : length (fileTable f) ≡ tableEntries n m
   unfolding fileTable
   entries = omega (arith, length-tableOf n q rows long, numbers)
 

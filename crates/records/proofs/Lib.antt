@@ -1,2 +1,2 @@
 pub mod Naming
-pub mod Turning
+pub mod Joining

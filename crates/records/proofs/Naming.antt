@@ -39,6 +39,11 @@ widest {n} {m} {r} g =
       sound = ends-test maxBuses m r (λ k b. let f = ends-facts n m r (g .sound) k b in (omega (arith, f .0, g .buses), omega (arith, f .1, g .buses), f .2));
     }
 
+-- and those of the first records are sound too
+pub first-records : {n m : ℕ} {r : List ℕ} → SoundRecords n m r → {k : ℕ} → k < m → SoundRecords n (k + 1) r
+first-records {n} {m} {r} g {k} b =
+    record { buses = g .buses; lines = omega (arith, g .lines); sound = ends-test n (k + 1) r (λ i l. ends-facts n m r (g .sound) i (omega arith)) }
+
 pub named-none : (r : List ℕ) {l : List ℕ} → Blank l → Named 0 r l
 unfolding sumBelow
 named-none r w = record { size = w .size; each = w .clear }

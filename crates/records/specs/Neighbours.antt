@@ -5,19 +5,21 @@ use mathlib.Core.Logic.{⊎-elim}
 use mathlib.Core.Path.{_≡_, sym, _∙_}
 use Prim.Native.Nat.{ℕ, _≤_, _<_}
 use native.Mathlib.Omega.{arith}
-use borrow.Author.Tests.{ltb-true, ltb-false, eqb-true}
+use borrow.Author.Tests.{ltb-true, ltb-false, eqb-true, lt-ltb}
 use lib.Dec.{ltb, eqb}
 use lib.ListN.{length}
 use Rattle.lists.specs.Lists.{has}
+use Rattle.lists.specs.Below.{countBelow}
 use Rattle.lists.specs.Tests.{split, fails, and-left, and-right, or-cases}
-use Rattle.lists.specs.Loops.{anyBelow-at}
+use Rattle.lists.specs.Loops.{anyBelow-at, anyBelow-by}
 use Rattle.lists.specs.Range.{count-listBelow, has-listBelow, listBelow-in, listBelow-ascends}
 use Rattle.tables.specs.Limits.{maxDegree}
 use Rattle.tables.specs.Holds.{TidyRow}
 use Rattle.format.specs.Bytes.{firstEnd, secondEnd}
 use Rattle.format.specs.Sections.{soundEnds}
 use Rattle.format.specs.Sound.{ends-facts}
-use Rattle.records.specs.Records.{joins, joined, neighbours, crowded}
+use Rattle.records.specs.Records.{names, joins, joined, neighbours, crowded}
+use Rattle.records.specs.Filling.{Overfull}
 use Rattle.records.specs.Pairs.{neighbours-few, names-few}
 
 module _ (n m : ℕ) (r : List ℕ) (sound : soundEnds n m r ≡ true) where
@@ -48,6 +50,13 @@ module _ (n m : ℕ) (r : List ℕ) (sound : soundEnds n m r ≡ true) where
 
   pub neighbours-short : crowded n m r ≡ false → (i : ℕ) → i < n → length (neighbours n m r i) ≤ maxDegree
   neighbours-short free i l = omega (arith, neighbours-few n m r (ends-facts n m r sound) i m (omega arith), names-few n m r free i l)
+
+  -- a bus with too many neighbours stands in too many records
+  pub overfull-crowded : Overfull n m r → crowded n m r ≡ true
+  unfolding crowded
+  overfull-crowded w =
+      anyBelow-by (λ b. ltb maxDegree (countBelow m (names r b))) n (w .bus) (w .low)
+      (lt-ltb maxDegree (countBelow m (names r (w .bus))) (omega (arith, w .many, neighbours-few n m r (ends-facts n m r sound) (w .bus) m (omega arith))))
 
   -- j stands in row i exactly if a record joins i and j
   pub neighbours-joined : (i j : ℕ) → has j (neighbours n m r i) ≡ joined m r i j

@@ -1,5 +1,5 @@
 -- Laws of the pairs that records join. Assumes nothing.
-use mathlib.Core.Bool.{Bool, true, false, _&&_, _||_, and-comm, or-comm}
+use mathlib.Core.Bool.{Bool, true, false, _&&_, _||_, and-comm, or-comm, or-false}
 use mathlib.Core.List.{List}
 use mathlib.Core.Logic.{⊎-elim}
 use mathlib.Core.Path.{_≡_, sym, ap, ap₂, _∙_, fun-ext}
@@ -10,9 +10,9 @@ use lib.Dec.{ltb, eqb}
 use lib.ListN.{length}
 use Rattle.lists.specs.Lists.{tally}
 use Rattle.lists.specs.Below.{anyBelow, sumBelow, countBelow, joinBelow}
-use Rattle.lists.specs.Tests.{and-left, and-right, or-cases}
-use Rattle.lists.specs.Sums.{tally-or, tally-or-le}
-use Rattle.lists.specs.Loops.{anyBelow-next, anyBelow-none}
+use Rattle.lists.specs.Tests.{split, and-left, and-right, or-cases}
+use Rattle.lists.specs.Sums.{tally-grows, tally-or, tally-or-le}
+use Rattle.lists.specs.Loops.{anyBelow-at, anyBelow-by, anyBelow-next, anyBelow-none}
 use Rattle.lists.specs.Range.{sumBelow-same, sumBelow-add, sumBelow-le, sumBelow-const, countBelow-one, length-joinBelow, length-listBelow}
 use Rattle.tables.specs.Limits.{maxDegree}
 use Rattle.format.specs.Bytes.{firstEnd, secondEnd}
@@ -39,6 +39,26 @@ joins-own r i j k h =
     (λ e. ap₂ (joined k r) (sym (eqb-true a i (and-left (eqb a i) (eqb b j) e))) (sym (eqb-true b j (and-right (eqb a i) (eqb b j) e))))
     (λ e. joined-sym k r i j ∙ ap₂ (joined k r) (sym (eqb-true a j (and-left (eqb a j) (eqb b i) e))) (sym (eqb-true b i (and-right (eqb a j) (eqb b i) e))))
     (or-cases (eqb a i && eqb b j) (eqb a j && eqb b i) h)
+
+-- a record that repeats a pair joins nobody anew
+pub joined-again : (k : ℕ) (r : List ℕ) (i j : ℕ) → repeats r k ≡ true → joined (k + 1) r i j ≡ joined k r i j
+joined-again k r i j h =
+    joined-next k r i j
+    ∙ split (joins r i j k)
+    (λ e. rw (joins-own r i j k e ∙ h))
+    (λ e. rw e (or-false (joined k r i j)))
+
+-- more records give a bus no fewer neighbours
+pub neighbours-rise : (n k m : ℕ) (r : List ℕ) (i : ℕ) → k ≤ m → length (neighbours n k r i) ≤ length (neighbours n m r i)
+unfolding neighbours joined
+neighbours-rise n k m r i l =
+    omega (
+      arith,
+      length-listBelow n (joined k r i),
+      length-listBelow n (joined m r i),
+      sumBelow-le (λ j. tally (joined k r i j)) (λ j. tally (joined m r i j)) n λ j b.
+          tally-grows (joined k r i j) (joined m r i j) (λ h. let w = anyBelow-at (joins r i j) k h in anyBelow-by (joins r i j) m (w .0) (omega (arith, w .1)) (w .2)),
+    )
 
 -- where one number below n passes q, one passes p and q if p holds
 count-and : (p : Bool) (q : ℕ → Bool) (n : ℕ) → countBelow n q ≡ 1 → countBelow n (λ j. p && q j) ≡ tally p

@@ -1,16 +1,16 @@
 // The records of a network file: whether they crowd a bus or repeat a pair, and the rows that they fill.
-ghost use mathlib.Core.Bool.{true, false, not};
 ghost use mathlib.Core.Path.{_≡_};
-ghost use Prim.Native.Nat.{_*_, _≤_};
+ghost use Prim.Native.Nat.{_+_, _*_, _≤_, _<_};
 ghost use lib.Dec.{ltb};
 ghost use lib.ListN.{length};
 ghost use Rattle.lists.specs.Lists.{at};
 ghost use Rattle.lists.specs.Below.{anyBelow};
 ghost use Rattle.tables.specs.Limits.{maxBuses, maxDegree};
 ghost use Rattle.rows.specs.Held.{maxSlots, Blank};
-ghost use Rattle.records.specs.Records.{crowded, repeated};
-ghost use Rattle.records.specs.Filling.{SoundRecords, Named, Filled};
+ghost use Rattle.records.specs.Records.{crowded};
+ghost use Rattle.records.specs.Filling.{SoundRecords, Named, Filled, Joined, FilledBy};
 use file::ends_of;
+pub use insertion::Inserted;
 use network::Network;
 use rows::add;
 use rows::blank_counts;
@@ -55,29 +55,46 @@ pub fn crowded(records: &[u8], n: usize, m: usize) -> bool
     too_many(&counts, n)
 }
 
-// Inserts the ends of each record of a network of n buses into one another's rows. Gives false at the first record whose pair is there already.
+// Joins record k of a network of n buses to those before it: each of its ends is added to the row of the other.
+fn join(
+    records: &[u8],
+    n: usize,
+    k: usize,
+    slots: &mut [u16],
+    counts: &mut [u16; Network::BUSES],
+) -> Inserted
+    requires { ⌜ (4 * k + 3 < length (now records)) × SoundRecords n (k + 1) (now records) × Filled n k (now records) (now slots) (now counts) ⌝ }
+    ensures { λ r. ⌜ Joined r n k (now (records .entry)) (now (slots .exit)) (now (counts .exit)) ⌝ }
+{
+    let ends = ends_of(records, k);
+    let a = ends.first;
+    let b = ends.second;
+    let inserted = add(slots, counts, a, b as u16);
+    if !inserted.added() {
+        return inserted;
+    }
+    add(slots, counts, b, a as u16)
+}
+
+// Joins all m records, up to the first whose pair is present or which finds a row full.
 pub fn fill(
     records: &[u8],
     n: usize,
     m: usize,
     slots: &mut [u16],
     counts: &mut [u16; Network::BUSES],
-) -> bool
-    requires { ⌜ (4 * m ≤ length (now records)) × SoundRecords n m (now records) × (crowded n m (now records) ≡ false) ⌝ }
+) -> Inserted
+    requires { ⌜ (4 * m ≤ length (now records)) × SoundRecords n m (now records) ⌝ }
     requires { ⌜ (length (now slots) ≡ maxSlots) × Blank (now counts) ⌝ }
-    ensures { λ b. ⌜ (b ≡ not (repeated m (now (records .entry)))) × (b ≡ true → Filled n m (now (records .entry)) (now (slots .exit)) (now (counts .exit))) ⌝ }
+    ensures { λ r. ⌜ FilledBy r n m (now (records .entry)) (now (slots .exit)) (now (counts .exit)) ⌝ }
 {
     let mut k = 0;
     while k < m {
-        let ends = ends_of(records, k);
-        let a = ends.first;
-        let b = ends.second;
-        let inserted = add(slots, counts, a, b as u16);
+        let inserted = join(records, n, k, slots, counts);
         if !inserted.added() {
-            return false;
+            return inserted;
         }
-        add(slots, counts, b, a as u16);
         k += 1;
     }
-    true
+    Inserted::Added
 }

@@ -17,6 +17,22 @@ pub record Due {A B : Type 0} (cs : List Cause) (values : A) (s x : B) (answer :
 abbrev pub Answered : {A : Type 0} → List Cause → A → Outcome A → Type 0
 Answered cs values answer = Due {B = Unit {0}} cs values tt tt answer tt
 
+-- as contracts say it
+module _ {A : Type 0} (cs : List Cause) (values : A) {o : Outcome A} where
+  pub answer : Answered cs values o → o ≡ outcome cs values
+  answer d = d .answered
+
+  pub due : o ≡ outcome cs values → Answered cs values o
+  due e = record { answered = e; after = refl }
+
+-- and of a call that stores
+module _ {A B : Type 0} (cs : List Cause) (values : A) (s x : B) {o : Outcome A} {y : B} where
+  pub both : Due cs values s x o y → (o ≡ outcome cs values) × (y ≡ valuesOr x (outcome cs s))
+  both d = (d .answered, d .after)
+
+  pub due-both : (o ≡ outcome cs values) × (y ≡ valuesOr x (outcome cs s)) → Due cs values s x o y
+  due-both e = record { answered = e .0; after = e .1 }
+
 module _ {A B : Type 0} {values : A} {s x : B} where
   -- no cause is left
   pub accept : {v : A} {y : B} → v ≡ values → y ≡ s → Due [] values s x (gives v) y
@@ -31,13 +47,13 @@ module _ {A B : Type 0} {values : A} {s x : B} where
     pass e d = record { answered = rw e (d .answered); after = rw e (d .after) }
 
   -- the causes of a stage, then others: what the stage refuses is refused; where it gives a value, the others decide
-  module _ {C : Type 0} (cs : List Cause) {u : C} where
-    pub stage-stop : (ds : List Cause) {k : ℕ} → Answered cs u (refuses k) → Due (cs ++ ds) values s x (refuses k) x
-    stage-stop ds d =
-        let e = sym (d .answered) in
-        record { answered = sym (first-refuses ds u values cs e); after = sym (ap (valuesOr x) (first-refuses ds u s cs e)) }
+  module _ {C : Type 0} (cs : List Cause) (u : C) where
+    pub stage-stop : (ds : List Cause) {k : ℕ} → refuses k ≡ outcome cs u → Due (cs ++ ds) values s x (refuses k) x
+    stage-stop ds e = record { answered = sym (first-refuses ds u values cs (sym e)); after = sym (ap (valuesOr x) (first-refuses ds u s cs (sym e))) }
 
-    pub stage-pass : {ds : List Cause} {w : C} {o : Outcome A} {y : B} → Answered cs u (gives w) → Due ds values s x o y → Due (cs ++ ds) values s x o y
-    stage-pass {ds} d f =
-        let e = sym (d .answered) in
-        record { answered = f .answered ∙ sym (then-decides ds u values cs e); after = f .after ∙ sym (ap (valuesOr x) (then-decides ds u s cs e)) }
+    pub stage-pass : {ds : List Cause} {w : C} {o : Outcome A} {y : B} → gives w ≡ outcome cs u → Due ds values s x o y → Due (cs ++ ds) values s x o y
+    stage-pass {ds} e d =
+        record {
+          answered = d .answered ∙ sym (then-decides ds u values cs (sym e));
+          after = d .after ∙ sym (ap (valuesOr x) (then-decides ds u s cs (sym e)));
+        }

@@ -8,7 +8,6 @@ use lib.ListN.{length, take, drop, length-drop}
 use lib.Seq.{length-take-le}
 use Rattle.lists.specs.Lists.{has, at, part}
 use Rattle.lists.specs.Below.{sumBelow, joinBelow}
-use Rattle.lists.specs.Tests.{never-both}
 use Rattle.lists.specs.Range.{sumBelow-same, length-joinBelow}
 use Rattle.tables.specs.Limits.{maxBuses, maxDegree}
 use Rattle.insertion.specs.declared.Inserted.{Inserted}
@@ -56,19 +55,3 @@ pub was-added : (r : Inserted) (x i : ℕ) (slots counts slots′ counts′ : Li
 was-added Added x i slots counts slots′ counts′ e o = o
 was-added Present x i slots counts slots′ counts′ e o = absurd (true≢false (sym e))
 was-added Full x i slots counts slots′ counts′ e o = absurd (true≢false (sym e))
-
--- a number that is not there is added where there is room
-pub must-add : (r : Inserted) (x i : ℕ) (slots counts slots′ counts′ : List ℕ)
-    → has x (held slots counts i) ≡ false → length (held slots counts i) < maxDegree
-    → RowsAfter r x i slots counts slots′ counts′ → RowsAfter Added x i slots counts slots′ counts′
-must-add Added x i slots counts slots′ counts′ a l o = o
-must-add Present x i slots counts slots′ counts′ a l o = absurd (never-both (o .0) a)
-must-add Full x i slots counts slots′ counts′ a l o = absurd (omega (arith, o .1))
-
--- where there is room, what is not added is there
-pub must-have : (r : Inserted) (x i : ℕ) (slots counts slots′ counts′ : List ℕ)
-    → isAdded r ≡ false → length (held slots counts i) < maxDegree
-    → RowsAfter r x i slots counts slots′ counts′ → has x (held slots counts i) ≡ true
-must-have Added x i slots counts slots′ counts′ e l o = absurd (true≢false e)
-must-have Present x i slots counts slots′ counts′ e l o = o .0
-must-have Full x i slots counts slots′ counts′ e l o = absurd (omega (arith, o .1))

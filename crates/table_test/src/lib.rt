@@ -15,6 +15,7 @@ use network::table::needs;
 use network::table::size;
 use network::table::starts;
 use network::table::starts_at;
+use network::within;
 use rows::sound_rows;
 
 // Whether the slice has all entries of its table, and no more buses than a network may have.
@@ -23,10 +24,7 @@ fn complete(table: &[u16], h: usize) -> bool
     ensures { λ b. ⌜ b ≡ complete h (now (table .entry)) ⌝ }
 {
     let n = size(table);
-    if n < 1 {
-        return false;
-    }
-    if Network::BUSES < n {
+    if !within(1, Network::BUSES, n) {
         return false;
     }
     if table.len() < h + n + 1 {
@@ -41,11 +39,7 @@ fn fair(needs: &[u16]) -> bool
 {
     let mut bus = 0;
     while bus < needs.len() {
-        let need = entry(needs, bus);
-        if need < 1 {
-            return false;
-        }
-        if Network::NEED < need {
+        if !within(1, Network::NEED, entry(needs, bus)) {
             return false;
         }
         bus += 1;

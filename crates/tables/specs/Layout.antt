@@ -2,7 +2,7 @@
 -- between needs and row starts moves one definition.
 -- Definitions only. Assumes nothing.
 use mathlib.Core.List.{List, _∷_, _++_}
-use Prim.Native.Nat.{ℕ, _+_}
+use Prim.Native.Nat.{ℕ, _+_, _*_}
 use lib.ListN.{length}
 use Rattle.lists.specs.Lists.{has, at, part}
 use Rattle.lists.specs.Below.{sumBelow, countBelow, joinBelow, mapBelow}
@@ -67,6 +67,10 @@ need t i = at (needs t) i
 -- m, the number of lines: at each bus its neighbours below it, so that a line is counted once, at its higher bus
 unfoldable pub lines : List ℕ → ℕ
 lines t = sumBelow (size t) (λ i. countBelow i (λ j. has j (row t i)))
+
+-- how many entries the table of n buses and m lines has
+abbrev pub tableEntries : ℕ → ℕ → ℕ
+tableEntries n m = 2 * n + 2 + 2 * m
 
 -- the table of n buses with the needs q and these rows
 unfoldable pub tableOf : ℕ → List ℕ → (ℕ → List ℕ) → List ℕ

@@ -2,6 +2,7 @@
 -- `Network::limits` says so, and no test of a table would be proved with another.
 -- Definitions only. Assumes nothing.
 use Prim.Native.Nat.{ℕ, _+_, _*_, _/_}
+use Rattle.tables.specs.Layout.{tableEntries}
 
 -- buses of a network
 abbrev pub maxBuses : ℕ
@@ -19,9 +20,9 @@ maxNeed = 24
 abbrev pub maxLines : ℕ
 maxLines = maxBuses * maxDegree / 2
 
--- entries of a line table: the bus count, the needs, the row starts, two neighbour numbers for each line
+-- entries of a line table
 abbrev pub maxEntries : ℕ
-maxEntries = 1 + maxBuses + (maxBuses + 1) + 2 * maxLines
+maxEntries = tableEntries maxBuses maxLines
 
 -- bytes of a network file: two counts of two bytes, a byte for each need, a record of four for each line
 abbrev pub maxBytes : ℕ

@@ -11,7 +11,7 @@ use Rattle.lists.specs.Tests.{fails}
 use Rattle.lists.specs.Counts.{has-in}
 use Rattle.lists.specs.Range.{sumBelow-same, sumBelow-mirror, length-members}
 use Rattle.tables.specs.Limits.{maxDegree, maxLines, maxEntries}
-use Rattle.tables.specs.Layout.{rowAt, size, last, entries, links, startsAt, row, lines}
+use Rattle.tables.specs.Layout.{rowAt, size, last, entries, links, startsAt, row, lines, tableEntries}
 use Rattle.tables.specs.Holds.{SoundRows, Mirrored, Holds}
 use Rattle.tables.specs.Rows.{row-length, tidy-once, tidy-below, tidy-others, last-start, length-links}
 
@@ -50,6 +50,10 @@ module _ (t : List ℕ) (w : Holds t) where
 
   pub lines-few : lines t ≤ maxLines
   lines-few = omega (arith, two-for-each, last-few, w .shape .complete .most)
+
+  -- the table has the entries that its buses and lines ask for
+  pub entries-all : entries (startsAt t) t ≡ tableEntries (size t) (lines t)
+  entries-all = omega (arith, two-for-each)
 
   pub entries-few : entries (startsAt t) t ≤ maxEntries
   entries-few = omega (arith, last-few, w .shape .complete .most)

@@ -1,11 +1,16 @@
 -- `reader::read` meets its contract. The sections decide, or else the records. Assumes nothing.
 use borrow.Author.Needs.{needs}
+use native.Mathlib.Omega.{arith}
 use mathlib.Core.Path.{_≡_, sym, ap, _∙_}
+use lib.ListN.{length}
 use Rattle.refusals.specs.Outcomes.{gives}
-use Rattle.format.specs.Sections.{sectionsOutcome}
-use Rattle.format.specs.Sound.{sections-sound}
+use Rattle.refusals.specs.Due.{both, stage-stop}
+use Rattle.format.specs.Bytes.{busCount, lineCount, records}
+use Rattle.format.specs.Sections.{sectionCauses, counts, sectionsOutcome}
+use Rattle.format.specs.Sound.{length-needBytes, length-records}
 use Rattle.file.specs.Answers.{readingSays}
-use Rattle.reading.specs.Deciding.{sections-refuse, records-decide}
+use Rattle.reading.specs.Read.{recordCauses, readCauses, storedTable}
+use Rattle.reading.specs.Deciding.{sound, counted, records-decide}
 use Rattle.reader.proofs.read.Statement.{statement}
 use Rattle.reader.proofs.read.Tie as tie
 
@@ -13,17 +18,42 @@ use Rattle.reader.proofs.read.Tie as tie
 judged : (c : tie.After-counts) → sectionsOutcome (c .before .before .before .before .before .args .file .now) ≡ gives (c .counts .given .0 .0)
 judged c = sym (c .before .before .judge .ensures) ∙ ap readingSays (c .counts .given .1)
 
+needs-requires : tie.Need-needs-requires
+needs-requires c κs = let e = judged (c .before) in (ap (λ n. n .buses) (counted _ e), sound _ e .first .complete)
+
+records-requires : tie.Need-records-requires
+records-requires c κs = let e = judged (c .before .before) in (ap (λ n. n .buses) (counted _ e), sound _ e)
+
 read-records-requires : tie.Need-read-records-requires
 read-records-requires c κs =
-    let s = sections-sound _ (judged (c .before .before)) in (ap (λ n. n .buses) (s .1), ap (λ n. n .lines) (s .1), s .0)
+    let p = c .before .before in
+    let e = judged (p .before .before) in
+    let w = sound _ e in
+    let z = ap (λ n. n .lines) (counted _ e) in (
+      omega (arith, ap length (p .needs .ensures), length-needBytes w, w .first .buses),
+      omega (arith, z, w .lines),
+      omega (arith, z, ap length (c .before .records .ensures), length-records w),
+    )
 
 returns : tie.Need-returns
-returns c = sections-refuse _ _ (sym (c .before .before .before .judge .ensures) ∙ ap readingSays (c .before .cause .given .1))
+returns c =
+    let a = c .before .before .before .before .before .before .args in
+    let f = a .file .now in
+    let t = a .table .now in
+    both (readCauses f (length t)) (counts f) (storedTable f t) t
+    (stage-stop (sectionCauses f) (counts f) (recordCauses (busCount f) (lineCount f) (records f) (length t))
+    (sym (ap readingSays (c .before .cause .given .1)) ∙ c .before .before .before .judge .ensures))
 
 returns-2 : tie.Need-returns-2
 returns-2 c =
-    let p = c .before .before .before .before .before in
-    records-decide _ (p .before .before .before .before .before .args .table .now) (judged p) (c .before .before .read-records .ensures)
+    let r = c .before .before in
+    let p = r .before .before .before in
+    let k = p .before .before in
+    let a = k .before .before .before .before .before .args in
+    let f = a .file .now in
+    let t = a .table .now in
+    both (readCauses f (length t)) (counts f) (storedTable f t) t
+    (records-decide f (judged k) t (p .needs .ensures) (ap (λ n. n .lines) (counted f (judged k))) (r .before .before .records .ensures) (r .read-records .ensures))
 
 pub read-spec : {M : Type 1} → statement M
 read-spec =
@@ -32,6 +62,8 @@ read-spec =
     (λ c κs. search needs)
     (λ c. search needs)
     (λ c. search needs)
+    needs-requires
+    records-requires
     read-records-requires
     returns
     (λ c. search needs)

@@ -1,38 +1,41 @@
--- `table_test::fair` meets its contract. Assumes nothing.
+-- `table_test::fair` meets its contract. The loop's invariant: the needs passed are fair. Assumes nothing.
 use borrow.Author.Needs.{needs}
-use native.Mathlib.Omega.{arith}
-use mathlib.Core.Path.{sym}
-use Prim.Native.Nat.{ℕ, _-_, _≤_, _<_}
+use mathlib.Core.Bool.{true}
+use mathlib.Core.Path.{_≡_, sym, ap, _∙_}
+use Prim.Native.Nat.{_-_, _≤_}
 use lib.ListN.{length}
 use Rattle.lists.specs.Lists.{at}
-use Rattle.lists.specs.Tests.{fails}
-use borrow.Author.Count.{below-more}
-use native.Mathlib.Nat.{not-suc-le-zero}
+use Rattle.lists.specs.Below.{allBelow}
+use Rattle.lists.specs.Tests.{passed, failed}
+use Rattle.lists.specs.Loops.{allBelow-start, allBelow-more, allBelow-fails, allBelow-done}
 use Rattle.tables.specs.Limits.{maxNeed}
-use Rattle.tables.specs.Facts.{fair-facts, fair-test}
+use Rattle.tables.specs.Holds.{within, fairNeeds}
 use Rattle.table_test.proofs.fair.Statement.{statement}
 use Rattle.table_test.proofs.fair.Tie as tie
 
 abbrev Inv-loop : tie.InvT-loop
-Inv-loop q i₀ i = (i ≤ length q) × ((j : ℕ) → j < i → (1 ≤ at q j) × (at q j ≤ maxNeed))
+Inv-loop q bus₀ bus = (bus ≤ length q) × (allBelow bus (λ i. within 1 maxNeed (at q i)) ≡ true)
 
 abbrev μ-loop : tie.MeasureT-loop
-μ-loop q i₀ i = length q - i
+μ-loop q bus₀ bus = length q - bus
 
 loop-holds : tie.Need-loop-holds Inv-loop μ-loop
-loop-holds c = (search needs, λ j b. absurd (not-suc-le-zero b))
+loop-holds c = (search needs, allBelow-start _)
+
+-- the need was read from its place
+judged : (c : tie.After-within Inv-loop μ-loop) → c .within .result ≡ within 1 maxNeed (at (c .before .before .before .before .before .args .needs .now) (c .before .before .before .loop .bus))
+judged c = c .within .ensures ∙ ap (within 1 maxNeed) (c .before .entry .ensures .0)
 
 returns : tie.Need-returns Inv-loop μ-loop
-returns c = sym (fails _ (λ w. let z = fair-facts _ w _ (c .before .before .loop-test .taken) in omega arith))
-
-returns-2 : tie.Need-returns-2 Inv-loop μ-loop
-returns-2 c = sym (fails _ (λ w. let z = fair-facts _ w _ (c .before .before .before .loop-test .taken) in omega arith))
+unfolding fairNeeds
+returns c = sym (allBelow-fails _ _ _ (c .before .before .before .loop-test .taken) (failed (judged (c .before)) (c .if1 .taken)))
 
 loop-again : tie.Need-loop-again Inv-loop μ-loop
-loop-again c = (search needs, below-more _ _ (c .before .before .before .before .loop .inv .1) (omega arith))
+loop-again c = (search needs, allBelow-more _ _ (c .before .before .before .before .loop .inv .1) (passed (judged (c .before)) (c .if1 .left)))
 
-returns-3 : tie.Need-returns-3 Inv-loop μ-loop
-returns-3 c = sym (fair-test _ (λ j b. c .before .loop .inv .1 j (omega arith)))
+returns-2 : tie.Need-returns-2 Inv-loop μ-loop
+unfolding fairNeeds
+returns-2 c = sym (allBelow-done _ _ _ (c .before .loop .inv .1) (c .before .loop .inv .0) (c .loop-test .left))
 
 pub fair-spec : {M : Type 1} → statement M
 fair-spec =
@@ -42,9 +45,9 @@ fair-spec =
     μ-loop
     loop-holds
     (λ c κs. search needs)
+    (λ c κs. search needs)
     returns
-    returns-2
     (λ c. search needs)
     (λ c. search needs)
     loop-again
-    returns-3)
+    returns-2)
