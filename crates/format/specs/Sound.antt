@@ -40,7 +40,7 @@ module _ (f : List ℕ) where
   unfolding endsBefore
   buses-passed z =
       let n = within-facts 1 maxBuses (busCount f) (not-false _ (z .1 .0)) in
-      record { some = n .0; buses = n .1; complete = ltb-false _ _ (z .1 .1 .0); needs = not-false _ (z .1 .1 .1 .0) }
+      record { some = n .0; buses = n .1; complete = let h = ltb-false (length f) _ (z .1 .1 .0) in omega arith; needs = not-false _ (z .1 .1 .1 .0) }
 
   pub lines-passed : NoneHolds (lineCountCauses f) → lineCount f ≤ maxLines
   lines-passed z = within-facts 0 maxLines (lineCount f) (not-false _ (z .1 .0)) .1

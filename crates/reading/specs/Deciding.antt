@@ -1,13 +1,14 @@
 -- How the causes of Read decide: the sections, or else the records; and what an accepted file has passed. Assumes nothing.
 use mathlib.Core.Bool.{true, false}
-use mathlib.Core.List.{List, _++_}
-use mathlib.Core.Path.{_≡_, subst, sym, ap, _∙_}
+use mathlib.Core.List.{List}
+use mathlib.Core.Path.{_≡_, subst, sym}
 use Prim.Native.Nat.{ℕ}
 use borrow.Author.Tests.{not-false}
 use lib.ListN.{length}
+use Rattle.lists.specs.Tests.{or-none}
 use Rattle.lists.specs.Writes.{put-front}
 use Rattle.refusals.specs.Outcomes.{Outcome, gives}
-use Rattle.refusals.specs.Causes.{NoneHolds, no-cause, none-gives, none-both}
+use Rattle.refusals.specs.Causes.{NoneHolds, no-cause, none-gives, none-numbered, none-both}
 use Rattle.refusals.specs.Due.{Due, stage-pass}
 use Rattle.format.specs.declared.Counts.{Counts}
 use Rattle.format.specs.Bytes.{busCount, needBytes, lineCount, records}
@@ -15,7 +16,7 @@ use Rattle.format.specs.Sections.{sectionCauses, counts, sectionsOutcome, sound
 use Rattle.format.specs.Sound.{Sound, sections-passed, length-needBytes}
 use Rattle.records.specs.Records.{crowded, repeated}
 use Rattle.reading.specs.Stages.{RecordsDue}
-use Rattle.reading.specs.Read.{endsCauses, degreeCauses, roomCauses, recordCauses, readCauses, readOutcome, fileTable, storedTable, tableAfter}
+use Rattle.reading.specs.Read.{recordCauses, readCauses, readOutcome, fileTable, storedTable, tableAfter}
 
 -- where the sections are sound the records decide
 module _ (f : List ℕ) {c : Counts} (e : sectionsOutcome f ≡ gives c) where
@@ -48,26 +49,17 @@ module _ (f t : List ℕ) {c : Counts} (e : readOutcome f (length t) ≡ gives c
   none : NoneHolds (readCauses f (length t))
   none = no-cause (readCauses f (length t)) (counts f) e .0
 
-  apart : NoneHolds (sectionCauses f) × NoneHolds (recordCauses n m r (length t))
-  apart = none-both (sectionCauses f) (recordCauses n m r (length t)) none
-
   pub whole : Sound f
-  whole = sections-passed f (apart .0)
-
-  behind : NoneHolds (endsCauses n m r) × NoneHolds (degreeCauses n m r ++ roomCauses n m (length t))
-  behind = none-both (endsCauses n m r) (degreeCauses n m r ++ roomCauses n m (length t)) (apart .1)
+  whole = sections-passed f (none-both (sectionCauses f) (recordCauses n m r (length t)) none .0)
 
   pub sound-ends : soundEnds n m r ≡ true
-  sound-ends = not-false _ (behind .0 .0)
-
-  degrees : NoneHolds (degreeCauses n m r)
-  degrees = none-both (degreeCauses n m r) (roomCauses n m (length t)) (behind .1) .0
+  sound-ends = not-false _ (or-none _ _ (none-numbered 6 (readCauses f (length t)) none) .0)
 
   pub none-crowded : crowded n m r ≡ false
-  none-crowded = degrees .0
+  none-crowded = or-none _ _ (none-numbered 7 (readCauses f (length t)) none) .0
 
   pub none-repeated : repeated m r ≡ false
-  none-repeated = degrees .1 .0
+  none-repeated = or-none _ _ (none-numbered 8 (readCauses f (length t)) none) .0
 
   pub table-stored : tableAfter f t ≡ storedTable f t
   table-stored = rw (none-gives (readCauses f (length t)) (storedTable f t) none)

@@ -1,8 +1,9 @@
 -- Laws of the first cause. Assumes nothing.
-use mathlib.Core.Bool.{Bool, true, false, cond, true≢false}
+use mathlib.Core.Bool.{Bool, true, false, cond, _||_, true≢false}
 use mathlib.Core.List.{List, [], _∷_, _++_, append-nil}
 use mathlib.Core.Path.{_≡_, refl, sym, ap, _∙_}
 use Prim.Native.Nat.{ℕ}
+use lib.Dec.{eqb}
 use Rattle.refusals.specs.declared.Refusal.{Refusal}
 use Rattle.refusals.specs.Numbers.{numberOf}
 use Rattle.refusals.specs.Outcomes.{Outcome, gives, refuses, Cause, _⇒_, outcome, valuesOr}
@@ -42,6 +43,19 @@ no-cause (c ∷ cs) values {w} e = go (c .test) (no-cause cs values) e
 pub none-gives : {A : Type 0} (cs : List Cause) (values : A) → NoneHolds cs → outcome cs values ≡ gives values
 none-gives [] values h = refl
 none-gives (c ∷ cs) values h = rw (h .0) (none-gives cs values (h .1))
+
+-- a cause of number k holds, wherever it stands in the list
+abbrev pub numbered : ℕ → List Cause → Bool
+numbered k [] = false
+numbered k (c ∷ cs) = cond (eqb (numberOf (c .refusal)) k) (c .test || numbered k cs) (numbered k cs)
+
+pub none-numbered : (k : ℕ) (cs : List Cause) → NoneHolds cs → numbered k cs ≡ false
+none-numbered k [] h = refl
+none-numbered k (c ∷ cs) h = go (eqb (numberOf (c .refusal)) k) (none-numbered k cs (h .1))
+  where
+    go : (b : Bool) → numbered k cs ≡ false → cond b (c .test || numbered k cs) (numbered k cs) ≡ false
+    go true e = rw (h .0) e
+    go false e = e
 
 -- ---- two lists of causes, one behind the other
 
