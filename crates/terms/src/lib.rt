@@ -5,7 +5,7 @@ ghost use lib.ListN.{length, replicate};
 ghost use Rattle.lists.specs.Lists.{count, _∈_, at, Tabled, put};
 ghost use Rattle.lists.specs.Below.{mapBelow};
 ghost use Rattle.fraction.specs.Divisors.{lcmAll};
-ghost use Rattle.tables.specs.Limits.{maxBuses, maxDegree};
+ghost use Rattle.tables.specs.Limits.{maxDegree};
 ghost use Rattle.tables.specs.Layout.{size};
 ghost use Rattle.tables.specs.Holds.{Scorable};
 ghost use Rattle.game.specs.Game.{neighbour};
@@ -90,25 +90,6 @@ pub fn term(table: &[u16], over: u64, units: &[u64; Degrees::ALL], bus: usize) -
         return 0;
     }
     ((d + 1 - k) as u64) * units[d]
-}
-
-// Fills the terms with what each bus gives to each neighbour.
-pub fn fill(
-    table: &[u16],
-    over: u64,
-    units: &[u64; Degrees::ALL],
-    terms: &mut [u64; Network::BUSES],
-)
-    requires { ⌜ Scorable (now table) × Over (now table) over × Tabled degrees (unit over) (now units) ⌝ }
-    requires { ⌜ length (now terms) ≡ maxBuses ⌝ }
-    ensures { λ _. ⌜ Tabled (size (now (table .entry))) (neighbour (gameOf (now (table .entry))) over) (now (terms .exit)) ⌝ }
-{
-    let n = size(table);
-    let mut bus = 0;
-    while bus < n {
-        terms[bus] = term(table, over, units, bus);
-        bus += 1;
-    }
 }
 
 // Stores zeros in the first n entries.
