@@ -6,9 +6,14 @@ use native.Mathlib.Nat.{le-refl, zero-add, add-zero, add-assoc, add-suc}
 use native.Mathlib.Numerals.{add-one}
 use native.Mathlib.Omega.{arith}
 use lib.ListN.{length, set, take, drop, length-append, length-take, length-drop, take-append-drop}
-use lib.Seq.{drop-cons, append-snoc, set-at, take-at, drop-at, drop-append-le, drop-append-add, drop-drop, length-take-le, take-set-le, drop-set-lt, take-all}
-use Rattle.lists.specs.Lists.{at, part, put}
-use Rattle.lists.specs.Places.{length-part, part-append, take-next}
+use lib.Dec.{ltb}
+use lib.Seq.{drop-cons, append-snoc, set-at, take-at, drop-at, drop-append-le, drop-append-add, drop-drop, length-take-le, take-set-le, drop-set-lt, take-all, ext-getD}
+use borrow.Author.Tests.{ltb-true, ltb-false}
+use Rattle.lists.specs.Lists.{at, part, Tabled, put}
+use Rattle.lists.specs.Below.{mapBelow}
+use Rattle.lists.specs.Tests.{split}
+use Rattle.lists.specs.Places.{at-append, at-behind, at-drop, length-part, part-append, take-next}
+use Rattle.lists.specs.Range.{length-mapBelow, mapBelow-at}
 
 -- what is written at the front, and behind it the rest as it was
 pub put-front : (t vs : List ℕ) → put t 0 vs ≡ vs ++ drop (length vs) t
@@ -83,6 +88,28 @@ module _ (t : List ℕ) (i : ℕ) (vs : List ℕ) where
       ∙ drop-append-add (take i t ++ vs) (drop (i + length vs) t) d
       ∙ drop-drop d (i + length vs) t
       ∙ ap (λ n. drop n t) q)
+
+-- written at the front, vs stands there entry by entry, and behind it the rest as it was
+module _ (t vs : List ℕ) where
+  pub at-front : (x : ℕ) → x < length vs → at (put t 0 vs) x ≡ at vs x
+  at-front x h = ap (λ l. at l x) (put-front t vs) ∙ at-append vs _ x h
+
+  pub behind-front : (x : ℕ) → length vs ≤ x → at (put t 0 vs) x ≡ at t x
+  behind-front x h =
+      let q : length vs + (x - length vs) ≡ x = omega arith in
+      ap₂ at (put-front t vs) (sym q) ∙ at-behind vs _ (x - length vs) ∙ at-drop (length vs) t (x - length vs) ∙ ap (at t) q
+
+-- so a list whose first n entries are f 0, f 1, .. up to f (n - 1), and whose others are t's, is t with these written at its front
+pub put-tabled : (t : List ℕ) (n : ℕ) (f : ℕ → ℕ) {u : List ℕ} → n ≤ length t → length u ≡ length t → Tabled n f u
+    → ((x : ℕ) → n ≤ x → at u x ≡ at t x) → u ≡ put t 0 (mapBelow n f)
+unfolding at
+put-tabled t n f {u} h e first rest =
+    let vs = mapBelow n f in
+    let long = length-mapBelow n f in
+    ext-getD 0 u (put t 0 vs) (e ∙ sym (length-put t 0 vs (omega arith)))
+    (λ x l. split (ltb x n)
+    (λ a. let b = ltb-true x n a in first x b ∙ sym (at-front t vs x (omega arith) ∙ mapBelow-at f n b))
+    (λ a. let b = ltb-false x n a in rest x b ∙ sym (behind-front t vs x (omega arith))))
 
 -- a loop that stores: so far vs stands in u from place i on, and j is the next place
 module _ (t : List ℕ) (i : ℕ) (vs : List ℕ) {u : List ℕ} {j : ℕ} (w : u ≡ put t i vs) (e : j ≡ i + length vs) where

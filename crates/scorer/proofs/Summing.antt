@@ -39,7 +39,7 @@ module _ {t : List ℕ} (w : Scorable t) {L : ℕ} (o : Over t L) {bus : ℕ} {r
 
   -- x, which the bus gives to each neighbour
   module _ {x : ℕ} (ex : x ≡ neighbour (gameOf t) L bus) where
-    rest : own (gameOf t) L bus + length r * x ≡ L
+    pub rest : own (gameOf t) L bus + length r * x ≡ L
     rest = rw ex all
 
     pub rest-fits : length r * x ≤ L

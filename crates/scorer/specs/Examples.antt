@@ -11,10 +11,20 @@ use Rattle.game.specs.Game.{ownTerm, neighbourTerm}
 use Rattle.tables.specs.Layout.{rowAt, needs, starts, links, row}
 use Rattle.tables.specs.Holds.{within, complete, fairNeeds, neverFall, shortRows, tidy, tidyRow, tidyRows, soundRows, mirrored, twoWay, holds}
 use Rattle.tables.specs.Examples.{path}
-use Rattle.formula.specs.Tables.{largestDegree, divisorsOf}
+use Rattle.formula.specs.Tables.{gameOf, largestDegree, divisorsOf}
 use Rattle.formula.specs.Formula.{numeratorOver}
 use Rattle.two_way.specs.TwoWay.{networkOf}
 use Rattle.shares.specs.Answers.{sharesOutcome, storedNumerators, numeratorsAfter, shareOutcome}
+use Rattle.scorer.specs.Work.{termTo}
+
+-- over 6: bus 0 of Path keeps 3 and gives 3 to bus 1, which keeps 2, 4 or 6 by its need and gives the rest to both ends
+given :
+    (mapBelow 3 (termTo (gameOf (path 1)) 6 0) ≡ 3 ∷ 3 ∷ 0 ∷ [])
+    × (mapBelow 3 (termTo (gameOf (path 1)) 6 1) ≡ 2 ∷ 2 ∷ 2 ∷ [])
+    × (mapBelow 3 (termTo (gameOf (path 2)) 6 1) ≡ 1 ∷ 4 ∷ 1 ∷ [])
+    × (mapBelow 3 (termTo (gameOf (path 3)) 6 1) ≡ 0 ∷ 6 ∷ 0 ∷ [])
+unfolding path termTo ownTerm neighbourTerm mapBelow joinBelow rowAt needs starts links row at
+given = (refl, refl, refl, refl)
 
 -- a table, entries lent, the answer of Shares, and the entries after it
 record Case : Type 0 where

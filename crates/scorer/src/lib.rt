@@ -3,27 +3,29 @@ ghost use mathlib.Core.Path.{_≡_};
 ghost use Prim.Native.Nat.{_≤_, _<_};
 ghost use lib.ListN.{length};
 ghost use Rattle.lists.specs.Lists.{Tabled, put};
-ghost use Rattle.lists.specs.Below.{mapBelow};
+ghost use Rattle.lists.specs.Below.{mapBelow, range};
 ghost use Rattle.tables.specs.Layout.{size};
-ghost use Rattle.tables.specs.Holds.{Scorable};
-ghost use Rattle.game.specs.Game.{neighbour};
+ghost use Rattle.tables.specs.Holds.{Scorable, Holds};
+ghost use Rattle.game.specs.Game.{numerator as formula};
 ghost use Rattle.formula.specs.Network.{denominator};
 ghost use Rattle.formula.specs.Tables.{gameOf, Over};
 ghost use Rattle.formula.specs.Formula.{numeratorOver};
 ghost use Rattle.formula.specs.Formula.{numerator as Formula·numerator};
 ghost use Rattle.two_way.specs.TwoWay.{networkOf};
 ghost use Rattle.terms.specs.Unit.{degrees, unit};
+ghost use Rattle.terms.specs.Added.{Added};
 ghost use Rattle.shares.specs.Answers.{sharesOutcome, numeratorsAfter, AllFair, shareOutcome, OneFair};
 ghost use Rattle.scorer.specs.Answers.{sharesSays, shareSays};
-use network::Network;
+ghost use Rattle.scorer.specs.Work.{termTo, Room};
 pub use network::Refusal;
 use network::rows::entry;
 use network::table::neighbours;
 use network::table::size;
 use table_test::holds;
 use terms::Degrees;
+use terms::clear;
 use terms::denominator;
-use terms::fill;
+use terms::give;
 use terms::term;
 use terms::units;
 
@@ -56,51 +58,42 @@ pub fn numerator(table: &[u16], over: u64, units: &[u64; Degrees::ALL], bus: usi
     sum
 }
 
-// The same from the terms of all buses, so that none is found again for each neighbour.
-fn gathered(table: &[u16], over: u64, terms: &[u64; Network::BUSES], bus: usize) -> u64
+// Adds the terms of a bus: to its own entry what is left of its L, and to the entry of each bus in its row what it gives.
+fn add_terms(
+    table: &[u16],
+    over: u64,
+    units: &[u64; Degrees::ALL],
+    bus: usize,
+    numerators: &mut [u64],
+)
     requires { ⌜ Scorable (now table) × (bus < size (now table)) × Over (now table) over ⌝ }
-    requires { ⌜ Tabled (size (now table)) (neighbour (gameOf (now table)) over) (now terms) ⌝ }
-    ensures { λ r. ⌜ r ≡ numeratorOver (networkOf (now (table .entry))) over bus ⌝ }
+    requires { ⌜ Tabled degrees (unit over) (now units) × Room (size (now table)) over (now numerators) ⌝ }
+    ensures { λ _. ⌜ Added (termTo (gameOf (now (table .entry))) over bus) (now (numerators .entry)) (now (numerators .exit)) ⌝ }
 {
     let row = neighbours(table, bus);
-    let mut sum = over - (row.len() as u64) * terms[bus];
-    let mut k = 0;
-    while k < row.len() {
-        let neighbour = entry(row, k);
-        sum += terms[neighbour];
-        k += 1;
-    }
-    sum
+    let term = term(table, over, units, bus);
+    numerators[bus] += over - (row.len() as u64) * term;
+    give(row, term, numerators);
 }
 
-// Stores the numerator of each bus at its entry.
-fn store(table: &[u16], over: u64, terms: &[u64; Network::BUSES], numerators: &mut [u64])
+// Stores the numerators of all buses, whichever way the table's lines run, over any L that makes their terms whole.
+pub fn score_over(table: &[u16], over: u64, numerators: &mut [u64])
     requires { ⌜ Scorable (now table) × (size (now table) ≤ length (now numerators)) × Over (now table) over ⌝ }
-    requires { ⌜ Tabled (size (now table)) (neighbour (gameOf (now table)) over) (now terms) ⌝ }
-    ensures { λ _. ⌜ now (numerators .exit) ≡ put (now (numerators .entry)) 0 (mapBelow (size (now (table .entry))) (numeratorOver (networkOf (now (table .entry))) over)) ⌝ }
+    ensures { λ _. ⌜ now (numerators .exit) ≡ put (now (numerators .entry)) 0 (mapBelow (size (now (table .entry))) (λ v. formula (gameOf (now (table .entry))) (range (size (now (table .entry)))) v over)) ⌝ }
 {
     let n = size(table);
+    let units = units(over);
+    clear(numerators, n);
     let mut bus = 0;
     while bus < n {
-        numerators[bus] = gathered(table, over, terms, bus);
+        add_terms(table, over, &units, bus, numerators);
         bus += 1;
     }
 }
 
-// Stores the numerators of all buses over any L that makes their terms whole.
-pub fn score_over(table: &[u16], over: u64, numerators: &mut [u64])
-    requires { ⌜ Scorable (now table) × (size (now table) ≤ length (now numerators)) × Over (now table) over ⌝ }
-    ensures { λ _. ⌜ now (numerators .exit) ≡ put (now (numerators .entry)) 0 (mapBelow (size (now (table .entry))) (numeratorOver (networkOf (now (table .entry))) over)) ⌝ }
-{
-    let units = units(over);
-    let mut terms = [0u64; Network::BUSES];
-    fill(table, over, &units, &mut terms);
-    store(table, over, &terms, numerators);
-}
-
-// Stores the numerators of all buses over the network's own L, which it gives.
+// Stores the numerators of all buses of a network over its own L, which it gives.
 pub fn score(table: &[u16], numerators: &mut [u64]) -> u64
-    requires { ⌜ Scorable (now table) × (size (now table) ≤ length (now numerators)) ⌝ }
+    requires { ⌜ Holds (now table) × (size (now table) ≤ length (now numerators)) ⌝ }
     ensures { λ r. ⌜ r ≡ denominator (networkOf (now (table .entry))) ⌝ }
     ensures { λ _. ⌜ now (numerators .exit) ≡ put (now (numerators .entry)) 0 (mapBelow (size (now (table .entry))) (Formula·numerator (networkOf (now (table .entry))))) ⌝ }
 {

@@ -1,3 +1,5 @@
--- Units: definitions, and computed examples.
+-- Units and additions: definitions, computed examples, and the laws of adding.
 pub mod Unit
+pub mod Added
 pub mod Examples
+pub mod Adding

@@ -1,16 +1,17 @@
-// What shares are made of: the common denominator L, and what each bus gives to each of its neighbours.
+// What shares are made of: the common denominator L, what each bus gives to each of its neighbours, and how that is added up.
 ghost use mathlib.Core.Path.{_≡_};
-ghost use Prim.Native.Nat.{suc, _+_, _≤_, _<_};
-ghost use lib.ListN.{length};
-ghost use Rattle.lists.specs.Lists.{Tabled};
+ghost use Prim.Native.Nat.{ℕ, suc, _+_, _*_, _^_, _≤_, _<_};
+ghost use lib.ListN.{length, replicate};
+ghost use Rattle.lists.specs.Lists.{count, _∈_, at, Tabled, put};
 ghost use Rattle.lists.specs.Below.{mapBelow};
 ghost use Rattle.fraction.specs.Divisors.{lcmAll};
-ghost use Rattle.tables.specs.Limits.{maxBuses, maxDegree};
+ghost use Rattle.tables.specs.Limits.{maxDegree};
 ghost use Rattle.tables.specs.Layout.{size};
 ghost use Rattle.tables.specs.Holds.{Scorable};
 ghost use Rattle.game.specs.Game.{neighbour};
 ghost use Rattle.formula.specs.Tables.{gameOf, largestDegree, divisorsOf, Over};
 ghost use Rattle.terms.specs.Unit.{degrees, unit};
+ghost use Rattle.terms.specs.Added.{Added};
 use fraction::lcm;
 use network::Network;
 use network::rows::entry;
@@ -91,21 +92,27 @@ pub fn term(table: &[u16], over: u64, units: &[u64; Degrees::ALL], bus: usize) -
     ((d + 1 - k) as u64) * units[d]
 }
 
-// Fills the terms with what each bus gives to each neighbour.
-pub fn fill(
-    table: &[u16],
-    over: u64,
-    units: &[u64; Degrees::ALL],
-    terms: &mut [u64; Network::BUSES],
-)
-    requires { ⌜ Scorable (now table) × Over (now table) over × Tabled degrees (unit over) (now units) ⌝ }
-    requires { ⌜ length (now terms) ≡ maxBuses ⌝ }
-    ensures { λ _. ⌜ Tabled (size (now (table .entry))) (neighbour (gameOf (now (table .entry))) over) (now (terms .exit)) ⌝ }
+// Stores zeros in the first n entries.
+pub fn clear(numerators: &mut [u64], n: usize)
+    requires { ⌜ n ≤ length (now numerators) ⌝ }
+    ensures { λ _. ⌜ now (numerators .exit) ≡ put (now (numerators .entry)) 0 (replicate n 0) ⌝ }
 {
-    let n = size(table);
     let mut bus = 0;
     while bus < n {
-        terms[bus] = term(table, over, units, bus);
+        numerators[bus] = 0;
         bus += 1;
+    }
+}
+
+// Adds a term to the entry of each bus in a row.
+pub fn give(row: &[u16], term: u64, numerators: &mut [u64])
+    requires { ⌜ ((bus : ℕ) → bus ∈ now row → (bus < length (now numerators)) × (at (now numerators) bus + term * count bus (now row) < 2 ^ 64)) ⌝ }
+    ensures { λ _. ⌜ Added (λ bus. term * count bus (now (row .entry))) (now (numerators .entry)) (now (numerators .exit)) ⌝ }
+{
+    let mut k = 0;
+    while k < row.len() {
+        let bus = entry(row, k);
+        numerators[bus] += term;
+        k += 1;
     }
 }

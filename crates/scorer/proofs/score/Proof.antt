@@ -1,19 +1,22 @@
--- `scorer::score` meets its contract. Assumes nothing.
+-- `scorer::score` meets its contract: lines run both ways, so the game's formula is 01's along the bus's own row. Assumes nothing.
 use borrow.Author.Needs.{needs}
 use mathlib.Core.Path.{ap, _∙_}
 use Rattle.lists.specs.Lists.{put}
 use Rattle.lists.specs.Below.{mapBelow}
+use Rattle.lists.specs.Range.{mapBelow-same}
 use Rattle.tables.specs.Layout.{size}
 use Rattle.formula.specs.Formula.{numeratorOver}
-use Rattle.two_way.specs.TwoWay.{networkOf}
+use Rattle.formula.specs.Fair.{as-game}
 use Rattle.formula.specs.Played.{own-over}
+use Rattle.two_way.specs.TwoWay.{networkOf}
+use Rattle.two_way.specs.Sound.{watching}
 use Rattle.scorer.proofs.score.Statement.{statement}
 use Rattle.scorer.proofs.score.Tie as tie
 
 score-over-requires : tie.Need-score-over-requires
 score-over-requires c κs =
     let s = c .before .before .before .before in
-    (s .pre .0, s .pre .1, own-over (s .pre .0) (c .before .denominator .ensures))
+    (s .pre .0 .shape, s .pre .1, own-over (s .pre .0 .shape) (c .before .denominator .ensures))
 
 returns : tie.Need-returns
 returns c =
@@ -21,7 +24,13 @@ returns c =
     let d = p .before .before in
     let s = d .before .before .before in
     let t = s .args .table .now in
-    (d .denominator .ensures, p .score-over .ensures ∙ ap (λ L. put (s .args .numerators .now) 0 (mapBelow (size t) (numeratorOver (networkOf t) L))) (d .denominator .ensures))
+    let w = s .pre .0 in (
+      d .denominator .ensures,
+      p .score-over .ensures
+          ∙ ap (put (s .args .numerators .now) 0)
+          (mapBelow-same _ _ (size t) (as-game (watching (w .shape) (w .mirrored)) (d .denominator .result))
+          ∙ ap (λ L. mapBelow (size t) (numeratorOver (networkOf t) L)) (d .denominator .ensures)),
+    )
 
 pub score-spec : {M : Type 1} → statement M
 score-spec =

@@ -1,20 +1,86 @@
--- `scorer::score_over` meets its contract. Assumes nothing.
+-- `scorer::score_over` meets its contract. The loop's invariant: the buses passed have added their terms. Assumes nothing.
 use borrow.Author.Needs.{needs}
-use mathlib.Core.Path.{refl}
+use native.Mathlib.Omega.{arith}
+use mathlib.Core.Path.{refl, _∙_}
+use Prim.Native.Nat.{_-_, _≤_}
+use lib.ListN.{length}
+use Rattle.lists.specs.Below.{sumBelow}
+use Rattle.formula.specs.Tables.{gameOf}
+use Rattle.terms.specs.Added.{Added}
+use Rattle.terms.specs.Adding.{added-none, cleared-long}
+use Rattle.scorer.proofs.Scoring.{givenBy, bus-added, bus-room, all-added}
 use Rattle.scorer.proofs.score_over.Statement.{statement}
 use Rattle.scorer.proofs.score_over.Tie as tie
 
-fill-requires : tie.Need-fill-requires
-fill-requires c κs =
-    let s = c .before .before .before .before .before in
-    ((s .pre .0, s .pre .2, c .before .before .units .ensures), refl)
+abbrev Inv-loop : tie.InvT-loop
+Inv-loop table over numerators₀ n units bus₀ numerators bus = (bus ≤ n) × Added (givenBy (gameOf table) over bus) numerators₀ numerators
 
-store-requires : tie.Need-store-requires
-store-requires c κs =
-    let s = c .before .before .before .before .before .before .before .before in
-    ((s .pre .0, s .pre .1, s .pre .2), c .before .before .fill .ensures)
+abbrev μ-loop : tie.MeasureT-loop
+μ-loop table over numerators₀ n units bus₀ numerators bus = n - bus
+
+abbrev cleared : tie.At-loop Inv-loop μ-loop → tie.After-clear Inv-loop μ-loop
+cleared c = c .before .before .before
+
+abbrev sized : tie.At-loop Inv-loop μ-loop → tie.After-size Inv-loop μ-loop
+sized c = cleared c .before .before .before
+
+abbrev start : tie.At-loop Inv-loop μ-loop → tie.Start Inv-loop μ-loop
+start c = sized c .before .before .before
+
+size-requires : tie.Need-size-requires Inv-loop μ-loop
+size-requires c κs = let z = c .before .before .pre .0 .complete in omega arith
+
+clear-requires : tie.Need-clear-requires Inv-loop μ-loop
+clear-requires c κs = let p = c .before .before in omega (arith, p .before .before .before .pre .1, p .size .ensures .0)
+
+loop-holds : tie.Need-loop-holds Inv-loop μ-loop
+unfolding sumBelow
+loop-holds c = (search needs, added-none (λ v. refl) _)
+
+-- the entries that were cleared are there
+long : (c : tie.At-loop Inv-loop μ-loop) → sized c .size .result ≤ length (start c .args .numerators .now)
+long c = omega (arith, sized c .size .ensures .0, start c .pre .1)
+
+add-terms-requires : tie.Need-add-terms-requires Inv-loop μ-loop
+add-terms-requires c κs =
+    let i = c .before .before in
+    let v = i .before in
+    let s = start v in (
+      (s .pre .0, omega (arith, sized v .size .ensures .0, i .loop-test .taken), s .pre .2),
+      (cleared v .before .before .units .ensures, bus-room (s .pre .0) (s .pre .2) (s .args .numerators .now) (sized v .size .ensures .0) (long v) (cleared v .clear .ensures) (v .loop .bus) (v .loop .inv .1) (i .loop-test .taken)),
+    )
+
+loop-again : tie.Need-loop-again Inv-loop μ-loop
+loop-again c =
+    let a = c .before .before in
+    let v = a .before .before .before .before in
+    let s = start v in
+    (search needs, bus-added (gameOf (s .args .table .now)) (s .args .over) (v .loop .bus) (v .loop .inv .1) (a .add-terms .ensures))
+
+same-length : tie.Need-same-length Inv-loop μ-loop
+same-length c =
+    let v = c .before in
+    v .loop .inv .1 .long ∙ cleared-long (start v .args .numerators .now) (long v) (cleared v .clear .ensures)
+
+returns : tie.Need-returns Inv-loop μ-loop
+returns c =
+    let v = c .before in
+    let s = start v in
+    all-added (s .pre .0) (s .pre .2) (s .args .numerators .now) (sized v .size .ensures .0) (long v) (cleared v .clear .ensures) (v .loop .bus) (v .loop .inv .1) (v .loop .inv .0) (c .loop-test .left)
 
 pub score-over-spec : {M : Type 1} → statement M
 score-over-spec =
     tie.close
-    (tie.spec (λ c κs. search needs) fill-requires store-requires (λ c. search needs) (λ c. search needs))
+    (tie.spec
+    Inv-loop
+    μ-loop
+    size-requires
+    (λ c κs. search needs)
+    clear-requires
+    loop-holds
+    add-terms-requires
+    (λ c. search needs)
+    (λ c. search needs)
+    loop-again
+    same-length
+    returns)

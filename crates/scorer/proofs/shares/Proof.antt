@@ -38,7 +38,7 @@ returns-3 c =
 
 score-requires : tie.Need-score-requires
 score-requires c κs =
-    let e = c .before in (holds-facts _ (held (e .before .before)) .shape, omega (arith, e .before .size .ensures .0, e .if2 .left))
+    let e = c .before in (holds-facts _ (held (e .before .before)), omega (arith, e .before .size .ensures .0, e .if2 .left))
 
 pub shares-spec : {M : Type 1} → statement M
 shares-spec =

@@ -1,0 +1,16 @@
+-- What the scorer's functions promise one another when the terms of all buses are added up.
+-- Definitions only. Assumes nothing.
+use mathlib.Core.List.{List}
+use Prim.Native.Nat.{ℕ, _+_, _*_, _^_, _<_}
+use lib.Dec.{eqb}
+use lib.ListN.{length}
+use Rattle.lists.specs.Lists.{tally, count, at}
+use Rattle.game.specs.Game.{Game, own, neighbour}
+
+-- what bus u gives to the numerator of bus v, over L: its own term to its own, and its neighbour's term to that of each of its watchers
+unfoldable pub termTo : Game → ℕ → ℕ → ℕ → ℕ
+termTo g L u v = own g L u * tally (eqb v u) + neighbour g L u * count v (g .watch u)
+
+-- each of n buses has an entry, where L more fits
+abbrev pub Room : ℕ → ℕ → List ℕ → Type 0
+Room n L entries = (v : ℕ) → v < n → (v < length entries) × (at entries v + L < 2 ^ 64)
