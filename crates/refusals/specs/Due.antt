@@ -1,8 +1,11 @@
 -- How a call's causes decide, one after another: what is answered, and what lent entries hold after it. Assumes nothing.
-use mathlib.Core.Bool.{Bool, true, false}
+use mathlib.Core.Bool.{Bool, true, false, cond}
 use mathlib.Core.List.{List, [], _∷_, _++_}
 use mathlib.Core.Path.{_≡_, refl, sym, ap, _∙_}
-use Prim.Native.Nat.{ℕ}
+use Prim.Native.Nat.{ℕ, _≤_, _<_}
+use native.Mathlib.Omega.{arith}
+use borrow.Author.Tests.{le-ltb, lt-ltb}
+use lib.Dec.{ltb}
 use Rattle.refusals.specs.declared.Refusal.{Refusal}
 use Rattle.refusals.specs.Numbers.{numberOf}
 use Rattle.refusals.specs.Outcomes.{Outcome, gives, refuses, Cause, _⇒_, outcome, valuesOr}
@@ -18,6 +21,10 @@ abbrev pub Answered : {A : Type 0} → List Cause → A → Outcome A → Type 0
 Answered cs values answer = Due {B = Unit {0}} cs values tt tt answer tt
 
 module _ {A B : Type 0} {values : A} {s x : B} where
+  -- what is due, as a contract says it
+  pub both : {cs : List Cause} {o : Outcome A} {y : B} → Due cs values s x o y → (o ≡ outcome cs values) × (y ≡ valuesOr x (outcome cs s))
+  both d = (d .answered, d .after)
+
   -- no cause is left
   pub accept : {v : A} {y : B} → v ≡ values → y ≡ s → Due [] values s x (gives v) y
   accept e f = record { answered = ap gives e; after = f }
@@ -30,6 +37,14 @@ module _ {A B : Type 0} {values : A} {s x : B} where
     pub pass : {o : Outcome A} {y : B} → t ≡ false → Due cs values s x o y → Due ((t ⇒ r) ∷ cs) values s x o y
     pass e d = record { answered = rw e (d .answered); after = rw e (d .after) }
 
+  -- a cause that tests whether a number is below another; code read them into m and n
+  module _ {r : Refusal} {cs : List Cause} {a b m n : ℕ} (e : m ≡ a) (f : n ≡ b) where
+    pub below : m < n → Due ((ltb a b ⇒ r) ∷ cs) values s x (refuses (numberOf r)) x
+    below h = stop (lt-ltb a b (omega arith))
+
+    pub not-below : {o : Outcome A} {y : B} → n ≤ m → Due cs values s x o y → Due ((ltb a b ⇒ r) ∷ cs) values s x o y
+    not-below h d = pass (le-ltb a b (omega arith)) d
+
   -- the causes of a stage, then others: what the stage refuses is refused; where it gives a value, the others decide
   module _ {C : Type 0} (cs : List Cause) {u : C} where
     pub stage-stop : (ds : List Cause) {k : ℕ} → Answered cs u (refuses k) → Due (cs ++ ds) values s x (refuses k) x
@@ -41,3 +56,20 @@ module _ {A B : Type 0} {values : A} {s x : B} where
     stage-pass {ds} d f =
         let e = sym (d .answered) in
         record { answered = f .answered ∙ sym (then-decides ds u values cs e); after = f .after ∙ sym (ap (valuesOr x) (then-decides ds u s cs e)) }
+
+-- ---- a call that gives a part of another's values, and is refused as that one is
+
+module _ {A C : Type 0} (part : A → C) where
+  abbrev pub partOf : Outcome A → Outcome C
+  partOf (gives values) = gives (part values)
+  partOf (refuses number) = refuses number
+
+  part-under : (t : Bool) (k : ℕ) (o : Outcome A) → partOf (cond t (refuses k) o) ≡ cond t (refuses k) (partOf o)
+  part-under true k o = refl
+  part-under false k o = refl
+
+  pub part-answered : (cs : List Cause) (values : A) {o : Outcome A} → o ≡ outcome cs values → partOf o ≡ outcome cs (part values)
+  part-answered [] values e = ap partOf e
+  part-answered (c ∷ cs) values e =
+      let k = numberOf (c .refusal) in
+      ap partOf e ∙ part-under (c .test) k (outcome cs values) ∙ ap (cond (c .test) (refuses k)) (part-answered cs values refl)
