@@ -47,4 +47,4 @@ both-ways {t} w = same-game (watching-turned (oneWay t) refl (game-on (w .shape)
 -- the third demand for one-way lines: no law but the common one
 pub one-way-fair : (t x : List ℕ) {o : Outcome ℕ} {after : List ℕ} → o ≡ sharesOutcome (oneWay t) (length x) → after ≡ numeratorsAfter (oneWay t) x
     → AllFair (oneWay t) (length x) o after
-one-way-fair t x = all-fair (oneWay t) (held-sound t) x
+one-way-fair t x e f = all-fair (oneWay t) (held-sound t) x (record { answered = e; after = f })

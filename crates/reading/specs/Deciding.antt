@@ -9,7 +9,7 @@ use Rattle.lists.specs.Tests.{or-none}
 use Rattle.lists.specs.Writes.{put-front}
 use Rattle.refusals.specs.Outcomes.{Outcome, gives}
 use Rattle.refusals.specs.Causes.{NoneHolds, no-cause, none-gives, none-numbered, none-both}
-use Rattle.refusals.specs.Due.{Due, stage-pass}
+use Rattle.refusals.specs.Due.{Due, both, stage-pass}
 use Rattle.format.specs.declared.Counts.{Counts}
 use Rattle.format.specs.Bytes.{busCount, needBytes, lineCount, records}
 use Rattle.format.specs.Sections.{sectionCauses, counts, sectionsOutcome, soundEnds}
@@ -17,6 +17,13 @@ use Rattle.format.specs.Sound.{Sound, sections-passed, length-needBytes}
 use Rattle.records.specs.Records.{crowded, repeated}
 use Rattle.reading.specs.Stages.{RecordsDue}
 use Rattle.reading.specs.Read.{recordCauses, readCauses, readOutcome, fileTable, storedTable, tableAfter}
+
+-- what is due of Read, where a slice that held t is lent
+abbrev pub ReadDue : List ℕ → List ℕ → Outcome Counts → List ℕ → Type 0
+ReadDue f t = Due (readCauses f (length t)) (counts f) (storedTable f t) t
+
+pub read-due : (f t : List ℕ) {o : Outcome Counts} {t′ : List ℕ} → ReadDue f t o t′ → (o ≡ readOutcome f (length t)) × (t′ ≡ tableAfter f t)
+read-due f t d = both d
 
 -- where the sections are sound the records decide
 module _ (f : List ℕ) {c : Counts} (e : sectionsOutcome f ≡ gives c) where
@@ -27,7 +34,7 @@ module _ (f : List ℕ) {c : Counts} (e : sectionsOutcome f ≡ gives c) where
   counted = no-cause (sectionCauses f) (counts f) e .1
 
   pub records-decide : (t : List ℕ) {q r : List ℕ} {m : ℕ} {o : Outcome Counts} {t′ : List ℕ} → q ≡ needBytes f → m ≡ lineCount f → r ≡ records f → RecordsDue q m r t o t′
-      → Due (readCauses f (length t)) (counts f) (storedTable f t) t o t′
+      → ReadDue f t o t′
   unfolding storedTable fileTable
   records-decide t {q} {r} {m} {o} {t′} eq em er d =
       let n = busCount f in

@@ -1,8 +1,11 @@
 -- How a call's causes decide, one after another: what is answered, and what lent entries hold after it. Assumes nothing.
-use mathlib.Core.Bool.{Bool, true, false}
+use mathlib.Core.Bool.{Bool, true, false, cond}
 use mathlib.Core.List.{List, [], _∷_, _++_}
 use mathlib.Core.Path.{_≡_, refl, sym, ap, _∙_}
-use Prim.Native.Nat.{ℕ}
+use Prim.Native.Nat.{ℕ, _≤_, _<_}
+use native.Mathlib.Omega.{arith}
+use borrow.Author.Tests.{le-ltb, lt-ltb}
+use lib.Dec.{ltb}
 use Rattle.refusals.specs.declared.Refusal.{Refusal}
 use Rattle.refusals.specs.Numbers.{numberOf}
 use Rattle.refusals.specs.Outcomes.{Outcome, gives, refuses, Cause, _⇒_, outcome, valuesOr}
@@ -17,7 +20,12 @@ pub record Due {A B : Type 0} (cs : List Cause) (values : A) (s x : B) (answer :
 abbrev pub Answered : {A : Type 0} → List Cause → A → Outcome A → Type 0
 Answered cs values answer = Due {B = Unit {0}} cs values tt tt answer tt
 
--- as contracts say it
+-- ---- as contracts say it
+
+pub both : {A B : Type 0} {cs : List Cause} {values : A} {s x : B} {o : Outcome A} {y : B} → Due cs values s x o y
+    → (o ≡ outcome cs values) × (y ≡ valuesOr x (outcome cs s))
+both d = (d .answered, d .after)
+
 module _ {A : Type 0} (cs : List Cause) (values : A) {o : Outcome A} where
   pub answer : Answered cs values o → o ≡ outcome cs values
   answer d = d .answered
@@ -25,13 +33,7 @@ module _ {A : Type 0} (cs : List Cause) (values : A) {o : Outcome A} where
   pub due : o ≡ outcome cs values → Answered cs values o
   due e = record { answered = e; after = refl }
 
--- and of a call that stores
-module _ {A B : Type 0} (cs : List Cause) (values : A) (s x : B) {o : Outcome A} {y : B} where
-  pub both : Due cs values s x o y → (o ≡ outcome cs values) × (y ≡ valuesOr x (outcome cs s))
-  both d = (d .answered, d .after)
-
-  pub due-both : (o ≡ outcome cs values) × (y ≡ valuesOr x (outcome cs s)) → Due cs values s x o y
-  due-both e = record { answered = e .0; after = e .1 }
+-- ---- one cause after another
 
 module _ {A B : Type 0} {values : A} {s x : B} where
   -- no cause is left
@@ -46,10 +48,19 @@ module _ {A B : Type 0} {values : A} {s x : B} where
     pub pass : {o : Outcome A} {y : B} → t ≡ false → Due cs values s x o y → Due ((t ⇒ r) ∷ cs) values s x o y
     pass e d = record { answered = rw e (d .answered); after = rw e (d .after) }
 
+  -- a cause that tests whether a number is below another; code read them into m and n
+  module _ {r : Refusal} {cs : List Cause} {a b m n : ℕ} (e : m ≡ a) (f : n ≡ b) where
+    pub below : m < n → Due ((ltb a b ⇒ r) ∷ cs) values s x (refuses (numberOf r)) x
+    below h = stop (lt-ltb a b (omega arith))
+
+    pub not-below : {o : Outcome A} {y : B} → n ≤ m → Due cs values s x o y → Due ((ltb a b ⇒ r) ∷ cs) values s x o y
+    not-below h d = pass (le-ltb a b (omega arith)) d
+
   -- the causes of a stage, then others: what the stage refuses is refused; where it gives a value, the others decide
   module _ {C : Type 0} (cs : List Cause) (u : C) where
     pub stage-stop : (ds : List Cause) {k : ℕ} → refuses k ≡ outcome cs u → Due (cs ++ ds) values s x (refuses k) x
-    stage-stop ds e = record { answered = sym (first-refuses ds u values cs (sym e)); after = sym (ap (valuesOr x) (first-refuses ds u s cs (sym e))) }
+    stage-stop ds e =
+        record { answered = sym (first-refuses ds u values cs (sym e)); after = sym (ap (valuesOr x) (first-refuses ds u s cs (sym e))) }
 
     pub stage-pass : {ds : List Cause} {w : C} {o : Outcome A} {y : B} → gives w ≡ outcome cs u → Due ds values s x o y → Due (cs ++ ds) values s x o y
     stage-pass {ds} e d =
@@ -57,3 +68,20 @@ module _ {A B : Type 0} {values : A} {s x : B} where
           answered = d .answered ∙ sym (then-decides ds u values cs (sym e));
           after = d .after ∙ sym (ap (valuesOr x) (then-decides ds u s cs (sym e)));
         }
+
+-- ---- a call that gives a part of another's values, and is refused as that one is
+
+module _ {A C : Type 0} (part : A → C) where
+  abbrev pub partOf : Outcome A → Outcome C
+  partOf (gives values) = gives (part values)
+  partOf (refuses number) = refuses number
+
+  part-under : (t : Bool) (k : ℕ) (o : Outcome A) → partOf (cond t (refuses k) o) ≡ cond t (refuses k) (partOf o)
+  part-under true k o = refl
+  part-under false k o = refl
+
+  pub part-answered : (cs : List Cause) (values : A) {o : Outcome A} → o ≡ outcome cs values → partOf o ≡ outcome cs (part values)
+  part-answered [] values e = ap partOf e
+  part-answered (c ∷ cs) values e =
+      let k = numberOf (c .refusal) in
+      ap partOf e ∙ part-under (c .test) k (outcome cs values) ∙ ap (cond (c .test) (refuses k)) (part-answered cs values refl)

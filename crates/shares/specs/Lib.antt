@@ -1,5 +1,4 @@
 -- What Shares and Share answer: definitions, then laws and claims.
 pub mod Answers
-pub mod Calls
 pub mod Claims
 pub mod Promised

@@ -1,36 +1,40 @@
 -- How a text and Sheet line come out. Assumes nothing.
-use mathlib.Core.Bool.{Bool, true, false}
 use mathlib.Core.List.{List, [], _∷_}
 use mathlib.Core.Path.{_≡_, refl, sym, ap, ap₂, _∙_}
 use Prim.Native.Nat.{ℕ, suc, _+_, _≤_, _<_}
 use native.Mathlib.Nat.{zero-add}
-use native.Mathlib.Omega.{arith}
-use borrow.Author.Tests.{le-ltb, lt-ltb}
-use lib.Dec.{ltb}
 use lib.ListN.{length}
 use Rattle.lists.specs.Lists.{put}
 use Rattle.lists.specs.Writes.{put-front}
-use Rattle.refusals.specs.declared.Refusal.the-variants.{NoSuchBus}
-use Rattle.refusals.specs.Outcomes.{Outcome, gives, refuses, _⇒_, outcome, valuesOr}
+use Rattle.refusals.specs.Outcomes.{Outcome, gives, refuses}
+use Rattle.refusals.specs.Due.{Due, both, accept, below, not-below}
 use Rattle.text.specs.Text.{filled}
-use Rattle.tables.specs.Answers.{onTable}
 use Rattle.fraction.specs.Cancel.{cancelled}
 use Rattle.formula.specs.Network.{Network, denominator}
 use Rattle.formula.specs.Formula.{numerator}
 use Rattle.sheet.specs.Sheet.{headingForm, headingNumbers, busForm, shareNumbers, sheetLine}
-use Rattle.sheet.specs.Answers.{textCauses, textOutcome, written, textAfter, lineOutcome, lineAfter}
+use Rattle.sheet.specs.Answers.{textCauses, textOutcome, written, textAfter, lineCauses, lineOutcome, lineAfter}
 
--- an answer, and what bytes that held x hold after it, are those due for a text
+-- what is due for a text, where bytes that held x are lent
 abbrev pub TextDue : List ℕ → List ℕ → Outcome ℕ → List ℕ → Type 0
-TextDue text x answer after = (answer ≡ textOutcome text (length x)) × (after ≡ textAfter text x)
+TextDue text x = Due (textCauses text (length x)) (length text) (written text x) x
 
 -- the text was measured as n bytes
 module _ (text x : List ℕ) {n : ℕ} (e : n ≡ length text) where
   pub too-short : length x < n → TextDue text x (refuses 14) x
-  too-short g = rw (lt-ltb (length x) (length text) (omega arith)) (refl, refl)
+  too-short g = below refl e g
 
   pub in-front : {r : ℕ} {y : List ℕ} → n ≤ length x → r ≡ 0 + length text → y ≡ put x 0 text → TextDue text x (gives r) y
-  in-front g a w = rw (le-ltb (length x) (length text) (omega arith)) (ap gives (a ∙ zero-add (length text)), w ∙ put-front x text)
+  in-front g a w = not-below refl e g (accept (a ∙ zero-add (length text)) (w ∙ put-front x text))
+
+-- what was answered and written for a text is due for any that is the same
+pub due-text : {other : List ℕ} (text x : List ℕ) {o : Outcome ℕ} {y : List ℕ} → other ≡ text → (o ≡ textOutcome other (length x)) × (y ≡ textAfter other x) → TextDue text x o y
+due-text text x e w = let w = rw e at w in record { answered = w .0; after = w .1 }
+
+-- what is due of Sheet line is answered and written
+pub line-due : (N : Network) (i : ℕ) (x : List ℕ) {o : Outcome ℕ} {y : List ℕ} → Due (lineCauses N i (length x)) (length (sheetLine N i)) (written (sheetLine N i) x) x o y
+    → (o ≡ lineOutcome N i (length x)) × (y ≡ lineAfter N i x)
+line-due N i x d = both d
 
 -- the numbers of a bus's line, as code reads them
 pub numbers-read : {v k d x p q : ℕ} (need degree L : ℕ) → k ≡ need → d ≡ degree → (p, q) ≡ cancelled x L
@@ -46,26 +50,3 @@ module _ (N : Network) {i : ℕ} {numbers : List ℕ} where
       → filled busForm numbers ≡ sheetLine N i
   bus-read {v} z e ex eL =
       ap (filled busForm) (e ∙ ap₂ (shareNumbers v (N .needColumn v) (N .degreeColumn v)) ex eL) ∙ ap (sheetLine N) (sym z)
-
--- where there are a network and the line, the text decides
-there : {A : Type 0} {held : Bool} {n m i : ℕ} (text x : List ℕ) (values : A) → held ≡ true → n ≡ m → i ≤ n
-    → outcome (textCauses text (length x)) values ≡ outcome (onTable held ((ltb m i ⇒ NoSuchBus) ∷ textCauses text (length x))) values
-there {m = m} {i = i} text x values h e g = rw (h, le-ltb m i (omega arith))
-
--- so of Sheet line
-abbrev pub LineDue : Network → ℕ → List ℕ → Outcome ℕ → List ℕ → Type 0
-LineDue N i x answer after = (answer ≡ lineOutcome N i (length x)) × (after ≡ lineAfter N i x)
-
-module _ (N : Network) (i : ℕ) (x : List ℕ) where
-  pub no-network : N .held ≡ false → LineDue N i x (refuses 11) x
-  no-network h = rw h (refl, refl)
-
-  -- the bus count was read into n
-  module _ {n : ℕ} (h : N .held ≡ true) (e : n ≡ N .buses) where
-    pub no-line : n < i → LineDue N i x (refuses 13) x
-    no-line g = rw (h, lt-ltb (N .buses) i (omega arith)) (refl, refl)
-
-    pub as-text : {text : List ℕ} {answer : Outcome ℕ} {after : List ℕ} → i ≤ n → text ≡ sheetLine N i → TextDue text x answer after → LineDue N i x answer after
-    as-text g l w =
-        let w = rw l at w in
-        (w .0 ∙ there (sheetLine N i) x _ h e g, w .1 ∙ ap (valuesOr x) (there (sheetLine N i) x (written (sheetLine N i) x) h e g))

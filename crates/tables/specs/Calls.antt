@@ -1,58 +1,30 @@
--- How a call on a bus of a table comes out, whatever values it gives. Assumes nothing.
-use mathlib.Core.Bool.{Bool, true, false}
-use mathlib.Core.List.{List, []}
-use mathlib.Core.Path.{_≡_, refl, sym, ap, subst, _∙_}
+-- How calls on a table come out, whatever values they give and whatever entries are lent. Assumes nothing.
+use mathlib.Core.Bool.{Bool, true, false, not}
+use mathlib.Core.List.{List, _∷_}
+use mathlib.Core.Path.{_≡_, ap}
 use Prim.Native.Nat.{ℕ, _≤_, _<_}
 use native.Mathlib.Omega.{arith}
-use borrow.Author.Tests.{le-ltb, lt-ltb, ltb-true, ltb-false}
+use borrow.Author.Tests.{le-ltb, lt-ltb}
 use lib.Dec.{ltb}
-use Rattle.lists.specs.Tests.{split}
-use Rattle.refusals.specs.Outcomes.{Outcome, gives, refuses, Cause, outcome, valuesOr}
-use Rattle.tables.specs.Layout.{size, row}
-use Rattle.tables.specs.Holds.{holds}
-use Rattle.tables.specs.Answers.{onTable, busCauses, rowOutcome, rowPlaceOutcome, RowStands}
-use Rattle.tables.specs.Rows.{row-within, row-stands}
-use Rattle.tables.specs.Facts.{holds-facts}
+use Rattle.refusals.specs.declared.Refusal.the-variants.{NoSuchBus}
+use Rattle.refusals.specs.Outcomes.{Outcome, refuses, Cause, _⇒_}
+use Rattle.refusals.specs.Due.{Due, stop, pass}
+use Rattle.tables.specs.Answers.{onTable}
 
--- where the slice holds a network, the call's own causes decide
-pub on-held : {A : Type 0} {held : Bool} (causes : List Cause) (values : A) → held ≡ true → outcome causes values ≡ outcome (onTable held causes) values
-on-held causes values h = rw h
+module _ {A B : Type 0} {cs : List Cause} {values : A} {s x : B} where
+  module _ {held : Bool} where
+    -- a slice that holds no network is refused
+    pub no-network : held ≡ false → Due (onTable held cs) values s x (refuses 11) x
+    no-network h = stop (ap not h)
 
-module _ {A : Type 0} (held : Bool) (size bus : ℕ) (values : A) where
-  pub no-network : held ≡ false → outcome (busCauses held size bus) values ≡ refuses 11
-  no-network h = rw h
+    -- where it holds one, the call's own causes decide
+    pub on-held : {o : Outcome A} {y : B} → held ≡ true → Due cs values s x o y → Due (onTable held cs) values s x o y
+    on-held h d = pass (ap not h) d
 
-  -- the bus count was read into n
-  module _ {n : ℕ} (h : held ≡ true) (e : n ≡ size) where
-    pub no-bus : n ≤ bus → outcome (busCauses held size bus) values ≡ refuses 13
-    no-bus g = rw (h, le-ltb bus size (omega arith))
+  -- the cause of a call on a bus of n; the bus count was read into m
+  module _ {n m bus : ℕ} (e : m ≡ n) where
+    pub no-bus : m ≤ bus → Due ((not (ltb bus n) ⇒ NoSuchBus) ∷ cs) values s x (refuses 13) x
+    no-bus g = stop (ap not (le-ltb bus n (omega arith)))
 
-    pub given : bus < n → outcome (busCauses held size bus) values ≡ gives values
-    given g = rw (h, lt-ltb bus size (omega arith))
-
--- what Row gives: the empty part where Degree refuses, and else the row
-module _ (t : List ℕ) (bus : ℕ) where
-  row-none : holds t ≡ false → rowOutcome t bus ≡ []
-  row-none h = ap (valuesOr []) (no-network (holds t) (size t) bus (row t bus) h)
-
-  row-missing : holds t ≡ true → size t ≤ bus → rowOutcome t bus ≡ []
-  row-missing h g = ap (valuesOr []) (no-bus (holds t) (size t) bus (row t bus) h refl g)
-
-  row-there : holds t ≡ true → bus < size t → rowOutcome t bus ≡ row t bus
-  row-there h b = ap (valuesOr []) (given (holds t) (size t) bus (row t bus) h refl b)
-
--- THE ROW STANDS THERE: the place that is given for a row holds it, whatever the slice and the bus
-pub row-placed : (t : List ℕ) (bus : ℕ) → RowStands t bus (rowPlaceOutcome t bus)
-row-placed t bus =
-    split (holds t)
-    (λ h. split (ltb bus (size t))
-    (λ g.
-    let w = holds-facts t h .shape in
-    let b = ltb-true bus (size t) g in
-    rw (h, g) (row-within t w bus b, row-stands t w bus b ∙ sym (row-there t bus h b)))
-    (λ g. rw (h, g) (row-missing t bus h (ltb-false bus (size t) g))))
-    (λ h. rw h (row-none t bus h))
-
--- so a place that is answered as it is due holds the row
-pub placed : (t : List ℕ) (bus : ℕ) {o : Outcome (ℕ × ℕ)} → o ≡ rowPlaceOutcome t bus → (o ≡ rowPlaceOutcome t bus) × RowStands t bus o
-placed t bus e = (e, subst (RowStands t bus) (sym e) (row-placed t bus))
+    pub on-bus : {o : Outcome A} {y : B} → bus < m → Due cs values s x o y → Due ((not (ltb bus n) ⇒ NoSuchBus) ∷ cs) values s x o y
+    on-bus g d = pass (ap not (lt-ltb bus n (omega arith))) d

@@ -7,6 +7,7 @@ pub mod Examples
 pub mod Rows
 pub mod Facts
 pub mod Calls
+pub mod Placed
 pub mod Lines
 pub mod Beyond
 pub mod Laid

@@ -1,17 +1,17 @@
 -- No network's sheet has more bytes than `longestSheet`. Assumes nothing.
 use mathlib.Core.Bool.{true}
 use mathlib.Core.List.{List, [], _∷_}
-use mathlib.Core.Path.{_≡_, refl, sym, _∙_}
+use mathlib.Core.Path.{_≡_, refl, sym}
 use Prim.Native.Nat.{ℕ, zero, suc, _+_, _*_, _/_, _≤_, _<_}
 use native.Mathlib.Nat.{le-trans, mul-le-mul, div-le-self}
 use native.Mathlib.Omega.{arith}
-use borrow.Author.Tests.{le-ltb}
 use lib.ListN.{length, length-append}
 use Rattle.lists.specs.Lists.{at}
 use Rattle.lists.specs.Below.{joinBelow}
 use Rattle.lists.specs.Loops.{sumBelow-next}
 use Rattle.lists.specs.Range.{sumBelow-le, sumBelow-rises, sumBelow-const, length-joinBelow}
 use Rattle.refusals.specs.Outcomes.{gives}
+use Rattle.refusals.specs.Due.{accept, not-below}
 use Rattle.tables.specs.Calls.{on-held}
 use Rattle.text.specs.Text.{decimal, filled}
 use Rattle.text.specs.Decimal.{decimal-few}
@@ -26,10 +26,10 @@ use Rattle.formula.specs.Fair.{whole}
 use Rattle.formula.specs.Played.{degree-few, own-over}
 use Rattle.two_way.specs.TwoWay.{networkOf}
 use Rattle.two_way.specs.Sound.{total-weight, sound}
-use Rattle.sheet.specs.Answers.{textCauses}
 use Rattle.sheet.specs.Sheet.{headingForm, busForm, sheetLine}
 use Rattle.whole_sheet.specs.Whole.{wholeSheet, sheetOutcome}
 use Rattle.whole_sheet.specs.Work.{longestLine, longestSheet, Short}
+use Rattle.whole_sheet.specs.Calls.{sheet-due}
 
 -- the bytes of a line: those of its template, and the digits of its numbers
 heading-length : (n m L : ℕ) → length (filled headingForm (n ∷ m ∷ L ∷ [])) ≡ 20 + length (decimal n) + length (decimal m) + length (decimal L)
@@ -88,7 +88,7 @@ module _ {N : Network} (w : Short N) where
 
   -- so a call that is lent so many bytes is not refused for want of them
   pub never-short : (x : List ℕ) → N .held ≡ true → longestSheet ≤ length x → sheetOutcome N (length x) ≡ gives (length (wholeSheet N))
-  never-short x g h = sym (on-held (textCauses (wholeSheet N) (length x)) _ g) ∙ rw (le-ltb (length x) (length (wholeSheet N)) (le-trans sheet-fits h))
+  never-short x g h = sym (sheet-due N x (on-held g (not-below refl refl (le-trans sheet-fits h) (accept refl refl))) .0)
 
 -- the network of a table is such a one
 pub held-short : {t : List ℕ} → Holds t → Short (networkOf t)

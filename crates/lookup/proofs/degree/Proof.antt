@@ -1,25 +1,26 @@
 -- `lookup::degree` meets its contract. Assumes nothing.
 use borrow.Author.Needs.{needs}
-use mathlib.Core.Path.{sym, ap, _∙_}
-use Rattle.refusals.specs.Causes.{refuses-any, gives-part}
+use mathlib.Core.Path.{_≡_, sym, ap, _∙_}
+use Rattle.refusals.specs.Due.{partOf, part-answered}
 use Rattle.tables.specs.Layout.{size}
 use Rattle.tables.specs.Holds.{holds}
-use Rattle.tables.specs.Answers.{busCauses}
+use Rattle.tables.specs.Answers.{busCauses, degreeOutcome}
+use Rattle.lookup.specs.declared.RowPlace.{RowPlace}
 use Rattle.lookup.specs.Answers.{placeSays}
 use Rattle.lookup.proofs.degree.Statement.{statement}
 use Rattle.lookup.proofs.degree.Tie as tie
 
+-- what row_place answers, the number of entries alone, is due of Degree
+due : (c : tie.After-row-place) {r : RowPlace} → let a = c .before .before .args in c .row-place .result ≡ r → partOf (λ w. w .1) (placeSays r) ≡ degreeOutcome (a .table .now) (a .bus)
+due c e =
+    let t = c .before .before .args .table .now in
+    part-answered (λ w. w .1) (busCauses (holds t) (size t) (c .before .before .args .bus)) _ (sym (ap placeSays e) ∙ c .row-place .ensures .0)
+
 returns : tie.Need-returns
-returns c =
-    let p = c .before .before .before in
-    let a = p .before .before .args in
-    sym (refuses-any (busCauses (holds (a .table .now)) (size (a .table .now)) (a .bus)) _ _ (sym (p .row-place .ensures .0) ∙ ap placeSays (c .before .cause .given .1)))
+returns c = due (c .before .before .before) (c .before .cause .given .1)
 
 returns-2 : tie.Need-returns-2
-returns-2 c =
-    let p = c .before .before .before in
-    let a = p .before .before .args in
-    sym (gives-part (busCauses (holds (a .table .now)) (size (a .table .now)) (a .bus)) _ (λ w. w .1) (sym (p .row-place .ensures .0) ∙ ap placeSays (c .before .entries .given .1)))
+returns-2 c = due (c .before .before .before) (c .before .entries .given .1)
 
 pub degree-spec : {M : Type 1} → statement M
 degree-spec =

@@ -2,15 +2,16 @@
 use borrow.Author.Needs.{needs}
 use native.Mathlib.Omega.{arith}
 use mathlib.Core.Bool.{true}
-use mathlib.Core.Path.{_≡_, sym, ap, ap₂, _∙_}
+use mathlib.Core.Path.{_≡_, refl, ap, ap₂}
 use Prim.Native.Nat.{_<_}
 use lib.ListN.{length}
 use Rattle.lists.specs.Tests.{passed, failed}
-use Rattle.refusals.specs.Outcomes.{gives}
-use Rattle.tables.specs.Layout.{size, rowStart, degree}
+use Rattle.refusals.specs.Due.{accept}
+use Rattle.tables.specs.Layout.{size}
 use Rattle.tables.specs.Holds.{holds, Scorable}
 use Rattle.tables.specs.Facts.{holds-facts}
-use Rattle.tables.specs.Calls.{no-network, no-bus, given, placed}
+use Rattle.tables.specs.Calls.{no-network, on-held, no-bus, on-bus}
+use Rattle.tables.specs.Placed.{placed}
 use Rattle.lookup.proofs.row_place.Statement.{statement}
 use Rattle.lookup.proofs.row_place.Tie as tie
 
@@ -25,7 +26,7 @@ has-bus c = (holds-facts _ (held (c .before .before)) .shape, omega (arith, c .b
 returns : tie.Need-returns
 returns c =
     let a = c .before .before .before .args in
-    placed (a .table .now) (a .bus) (sym (no-network (holds (a .table .now)) (size (a .table .now)) (a .bus) (rowStart (a .table .now) (a .bus), degree (a .table .now) (a .bus)) (failed (c .before .holds .ensures) (c .if1 .taken))))
+    placed (a .table .now) (a .bus) (no-network (failed (c .before .holds .ensures) (c .if1 .taken)))
 
 size-requires : tie.Need-size-requires
 size-requires c κs = let z = holds-facts _ (held c) .shape .complete in omega arith
@@ -33,15 +34,14 @@ size-requires c κs = let z = holds-facts _ (held c) .shape .complete in omega a
 returns-2 : tie.Need-returns-2
 returns-2 c =
     let a = c .before .before .before .before .before .args in
-    placed (a .table .now) (a .bus) (sym (no-bus (holds (a .table .now)) (size (a .table .now)) (a .bus) (rowStart (a .table .now) (a .bus), degree (a .table .now) (a .bus)) (held (c .before .before)) (c .before .size .ensures .0) (c .if2 .taken)))
+    placed (a .table .now) (a .bus) (on-held (held (c .before .before)) (no-bus (c .before .size .ensures .0) (c .if2 .taken)))
 
 returns-3 : tie.Need-returns-3
 returns-3 c =
     let e = c .before .before in
     let a = e .before .before .before .before .before .args in
     placed (a .table .now) (a .bus)
-    (ap₂ (λ start many. gives (start, many)) (c .before .row-start .ensures) (ap length (c .neighbours .ensures))
-    ∙ sym (given (holds (a .table .now)) (size (a .table .now)) (a .bus) (rowStart (a .table .now) (a .bus), degree (a .table .now) (a .bus)) (held (e .before .before)) (e .before .size .ensures .0) (e .if2 .left)))
+    (on-held (held (e .before .before)) (on-bus (e .before .size .ensures .0) (e .if2 .left) (accept (ap₂ (λ start many. (start, many)) (c .before .row-start .ensures) (ap length (c .neighbours .ensures))) refl)))
 
 row-start-requires : tie.Need-row-start-requires
 row-start-requires c κs = has-bus c

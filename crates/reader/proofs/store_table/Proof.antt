@@ -1,20 +1,15 @@
 -- `reader::store_table` meets its contract. Assumes nothing.
 use borrow.Author.Needs.{needs}
-use borrow.Author.Tests.{lt-ltb, le-ltb}
 use native.Mathlib.Omega.{arith}
 use mathlib.Core.Path.{refl}
-use lib.ListN.{length}
-use Rattle.refusals.specs.Due.{stop, pass, accept}
-use Rattle.tables.specs.Layout.{tableEntries}
+use Rattle.refusals.specs.Due.{below, not-below, accept}
 use Rattle.rows.specs.Held.{held}
 use Rattle.reader.proofs.Building.{laid-length, built}
 use Rattle.reader.proofs.store_table.Statement.{statement}
 use Rattle.reader.proofs.store_table.Tie as tie
 
 returns : tie.Need-returns
-returns c =
-    let a = c .before .before .before .before .before .args in
-    stop (lt-ltb (length (a .table .now)) (tableEntries (length (a .needs .now)) (a .m)) (omega (arith, c .before .entries .ensures, c .if1 .taken)))
+returns c = below refl (c .before .entries .ensures) (c .if1 .taken)
 
 store-requires : tie.Need-store-requires
 store-requires c κs =
@@ -32,7 +27,7 @@ returns-2 c =
     let p = q .before .before .before .before in
     let e = p .before .before in
     let a = e .before .before .before .before .before .args in
-    pass (le-ltb (length (a .table .now)) (tableEntries (length (a .needs .now)) (a .m)) (omega (arith, e .before .entries .ensures, e .if1 .left)))
+    not-below refl (e .before .entries .ensures) (e .if1 .left)
     (accept refl (built (a .table .now) (a .needs .now) (held (a .slots .now) (a .counts .now)) (p .store-needs .ensures) (q .store .ensures)))
 
 pub store-table-spec : {M : Type 1} → statement M

@@ -2,13 +2,15 @@
 use borrow.Author.Needs.{needs}
 use native.Mathlib.Omega.{arith}
 use mathlib.Core.Bool.{true}
-use mathlib.Core.Path.{_≡_}
+use mathlib.Core.Path.{_≡_, refl, _∙_}
 use Rattle.lists.specs.Tests.{passed, failed}
+use Rattle.refusals.specs.Due.{accept, below, not-below}
 use Rattle.tables.specs.Holds.{holds}
 use Rattle.tables.specs.Facts.{holds-facts}
+use Rattle.tables.specs.Calls.{no-network, on-held}
 use Rattle.two_way.specs.TwoWay.{networkOf}
 use Rattle.two_way.specs.Sound.{held-sound}
-use Rattle.shares.specs.Promised.{none-held, few-lent, stored}
+use Rattle.shares.specs.Promised.{put-stored, shares-promised}
 use Rattle.scorer.proofs.shares.Statement.{statement}
 use Rattle.scorer.proofs.shares.Tie as tie
 
@@ -19,7 +21,7 @@ held c = passed (c .before .holds .ensures) (c .if1 .left)
 returns : tie.Need-returns
 returns c =
     let a = c .before .before .before .before .args in
-    none-held (networkOf (a .table .now)) (held-sound (a .table .now)) _ (failed (c .before .holds .ensures) (c .if1 .taken))
+    shares-promised (networkOf (a .table .now)) (held-sound (a .table .now)) _ (no-network (failed (c .before .holds .ensures) (c .if1 .taken)))
 
 size-requires : tie.Need-size-requires
 size-requires c κs = let z = holds-facts _ (held c) .shape .complete in omega arith
@@ -27,14 +29,16 @@ size-requires c κs = let z = holds-facts _ (held c) .shape .complete in omega a
 returns-2 : tie.Need-returns-2
 returns-2 c =
     let a = c .before .before .before .before .before .before .args in
-    few-lent (networkOf (a .table .now)) (held-sound (a .table .now)) _ (held (c .before .before)) (c .before .size .ensures .0) (c .if2 .taken)
+    shares-promised (networkOf (a .table .now)) (held-sound (a .table .now)) _
+    (on-held (held (c .before .before)) (below refl (c .before .size .ensures .0) (c .if2 .taken)))
 
 returns-3 : tie.Need-returns-3
 returns-3 c =
     let p = c .before .before in
     let e = p .before .before in
     let a = e .before .before .before .before .before .before .args in
-    stored (networkOf (a .table .now)) (held-sound (a .table .now)) _ (held (e .before .before)) (e .before .size .ensures .0) (e .if2 .left) (p .score .ensures .0) (p .score .ensures .1)
+    shares-promised (networkOf (a .table .now)) (held-sound (a .table .now)) _
+    (on-held (held (e .before .before)) (not-below refl (e .before .size .ensures .0) (e .if2 .left) (accept (p .score .ensures .0) (p .score .ensures .1 ∙ put-stored _ _))))
 
 score-requires : tie.Need-score-requires
 score-requires c κs =

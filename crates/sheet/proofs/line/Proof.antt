@@ -2,17 +2,19 @@
 use borrow.Author.Needs.{needs}
 use native.Mathlib.Omega.{arith}
 use mathlib.Core.Bool.{true}
-use mathlib.Core.Path.{_≡_, ap, _∙_}
-use Prim.Native.Nat.{suc, _-_, _≤_, _<_}
+use mathlib.Core.Path.{_≡_, refl, ap}
+use Prim.Native.Nat.{suc, _-_, _<_}
 use lib.ListN.{length}
 use Rattle.lists.specs.Tests.{passed, failed}
+use Rattle.refusals.specs.Due.{below, not-below}
 use Rattle.tables.specs.Layout.{size}
 use Rattle.tables.specs.Holds.{holds, Holds}
 use Rattle.tables.specs.Facts.{holds-facts}
-use Rattle.formula.specs.Formula.{numeratorOver}
+use Rattle.tables.specs.Calls.{no-network, on-held}
 use Rattle.formula.specs.Played.{own-some, own-over}
 use Rattle.two_way.specs.TwoWay.{networkOf}
-use Rattle.sheet.specs.Calls.{heading-read, bus-read, no-network, no-line, as-text}
+use Rattle.shares.specs.Promised.{own-numerator}
+use Rattle.sheet.specs.Calls.{due-text, line-due, heading-read, bus-read}
 use Rattle.sheet.proofs.line.Statement.{statement}
 use Rattle.sheet.proofs.line.Tie as tie
 
@@ -21,24 +23,20 @@ held : (c : tie.Else1) → holds (c .before .before .before .before .args .table
 held c = passed (c .before .holds .ensures) (c .if1 .left)
 
 returns : tie.Need-returns
-returns c = no-network (networkOf (c .before .before .before .before .args .table .now)) _ _ (failed (c .before .holds .ensures) (c .if1 .taken))
+returns c = line-due (networkOf (c .before .before .before .before .args .table .now)) _ _ (no-network (failed (c .before .holds .ensures) (c .if1 .taken)))
 
 size-requires : tie.Need-size-requires
 size-requires c κs = let z = holds-facts _ (held c) .shape .complete in omega arith
 
 returns-2 : tie.Need-returns-2
-returns-2 c = no-line (networkOf (c .before .before .before .before .before .before .args .table .now)) _ _ (held (c .before .before)) (c .before .size .ensures .0) (c .if2 .taken)
+returns-2 c = line-due (networkOf (c .before .before .before .before .before .before .args .table .now)) _ _ (on-held (held (c .before .before)) (below (c .before .size .ensures .0) refl (c .if2 .taken)))
 
 denominator-requires : tie.Need-denominator-requires
 denominator-requires c κs = holds-facts _ (held (c .before .before)) .shape
 
--- L is found: the slice holds a network, which has the line
-module _ (d : tie.After-denominator) where
-  holding : Holds (d .before .before .before .before .before .before .before .args .table .now)
-  holding = holds-facts _ (held (d .before .before .before))
-
-  has-line : d .before .before .before .before .before .before .before .args .i ≤ d .before .before .size .result
-  has-line = omega (arith, d .before .if2 .left)
+-- and so it does where L is found, with all that this tells of it
+holding : (d : tie.After-denominator) → Holds (d .before .before .before .before .before .before .before .args .table .now)
+holding d = holds-facts _ (held (d .before .before .before))
 
 heading-numbers-requires : tie.Need-heading-numbers-requires
 heading-numbers-requires c κs = let d = c .before .before in (holding d, d .denominator .ensures)
@@ -52,13 +50,13 @@ returns-3 c =
     let h = p .before .before .before in
     let d = h .before .before .before in
     let a = d .before .before .before .before .before .before .before .args in
-    as-text (networkOf (a .table .now)) (a .i) (a .out .now) (held (d .before .before .before)) (d .before .before .size .ensures .0) (has-line d)
-    (heading-read (networkOf (a .table .now)) (h .before .before .if3 .taken) (h .heading-numbers .ensures)) (p .place .ensures)
+    line-due (networkOf (a .table .now)) _ (a .out .now)
+    (on-held (held (d .before .before .before)) (not-below (d .before .before .size .ensures .0) refl (d .before .if2 .left) (due-text _ _ (heading-read (networkOf (a .table .now)) (h .before .before .if3 .taken) (h .heading-numbers .ensures)) (p .place .ensures))))
 
 -- the line is that of the bus before it
 module _ (e : tie.Else3) where
   has-bus : let a = e .before .before .before .before .before .before .before .before .args in a .i - 1 < size (a .table .now)
-  has-bus = omega (arith, e .if3 .left, has-line (e .before), e .before .before .before .size .ensures .0)
+  has-bus = omega (arith, e .if3 .left, e .before .before .before .size .ensures .0, e .before .before .if2 .left)
 
   its-bus : let a = e .before .before .before .before .before .before .before .before .args in a .i ≡ suc (a .i - 1)
   its-bus = omega (arith, e .if3 .left)
@@ -84,9 +82,12 @@ returns-4 c =
     let e = b .before .before .before .before .before in
     let d = e .before in
     let a = d .before .before .before .before .before .before .before .args in
-    as-text (networkOf (a .table .now)) (a .i) (a .out .now) (held (d .before .before .before)) (d .before .before .size .ensures .0) (has-line d)
+    line-due (networkOf (a .table .now)) _ (a .out .now)
+    (on-held (held (d .before .before .before))
+    (not-below (d .before .before .size .ensures .0) refl (d .before .if2 .left)
+    (due-text _ _
     (bus-read (networkOf (a .table .now)) (its-bus e) (b .bus-numbers .ensures)
-    (b .before .before .numerator .ensures ∙ ap (λ L. numeratorOver (networkOf (a .table .now)) L (a .i - 1)) (d .denominator .ensures)) (d .denominator .ensures)) (p .place2 .ensures)
+    (own-numerator _ _ (b .before .before .numerator .ensures) (d .denominator .ensures)) (d .denominator .ensures)) (p .place2 .ensures))))
 
 pub line-spec : {M : Type 1} → statement M
 line-spec =

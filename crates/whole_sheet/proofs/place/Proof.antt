@@ -2,18 +2,19 @@
 use borrow.Author.Needs.{needs}
 use mathlib.Core.Path.{refl, sym}
 use native.Mathlib.Nat.{zero-add}
+use Rattle.refusals.specs.Due.{both}
 use Rattle.sheet.specs.Calls.{too-short, in-front}
 use Rattle.whole_sheet.proofs.place.Statement.{statement}
 use Rattle.whole_sheet.proofs.place.Tie as tie
 
 returns : tie.Need-returns
-returns c = let a = c .before .before .before .args in too-short (a .text .now) (a .out .now) refl (c .if1 .taken)
+returns c = let a = c .before .before .before .args in both (too-short (a .text .now) (a .out .now) refl (c .if1 .taken))
 
 returns-2 : tie.Need-returns-2
 returns-2 c =
     let p = c .before .before in
     let a = p .before .before .before .before .before .args in
-    in-front (a .text .now) (a .out .now) refl (p .before .before .if1 .left) (sym (zero-add _)) (p .copy .ensures)
+    both (in-front (a .text .now) (a .out .now) refl (p .before .before .if1 .left) (sym (zero-add _)) (p .copy .ensures))
 
 pub place-spec : {M : Type 1} → statement M
 place-spec = tie.close (tie.spec returns (λ c κs. search needs) (λ c. search needs) returns-2)

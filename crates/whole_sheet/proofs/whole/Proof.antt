@@ -8,10 +8,12 @@ use lib.ListN.{length, take, replicate, length-replicate}
 use Rattle.lists.specs.Tests.{passed, failed}
 use Rattle.tables.specs.Holds.{holds}
 use Rattle.tables.specs.Facts.{holds-facts}
+use Rattle.tables.specs.Calls.{on-held}
 use Rattle.two_way.specs.TwoWay.{networkOf}
+use Rattle.sheet.specs.Calls.{due-text}
 use Rattle.whole_sheet.specs.Whole.{wholeSheet}
 use Rattle.whole_sheet.specs.Work.{longestSheet}
-use Rattle.whole_sheet.specs.Calls.{written-front, no-network, as-text}
+use Rattle.whole_sheet.specs.Calls.{written-front, sheet-due, none-held}
 use Rattle.whole_sheet.proofs.whole.Statement.{statement}
 use Rattle.whole_sheet.proofs.whole.Tie as tie
 
@@ -27,7 +29,7 @@ aside : (c : tie.After-write-sheet) → take (c .write-sheet .result) (c .write-
 aside c = written-front _ (replicate longestSheet 0) (c .write-sheet .ensures .0 .0) (c .write-sheet .ensures .1)
 
 returns : tie.Need-returns
-returns c = no-network (networkOf (c .before .before .before .before .args .table .now)) _ (failed (c .before .holds .ensures) (c .if1 .taken))
+returns c = none-held (networkOf (c .before .before .before .before .args .table .now)) _ (failed (c .before .holds .ensures) (c .if1 .taken))
 
 slice-aggregate-place : tie.Need-slice-aggregate-place
 slice-aggregate-place c = let w = c .before .before in w .write-sheet .ensures .0 .0 ∙ sym (ap length (aside w))
@@ -37,7 +39,7 @@ returns-2 c =
     let p = c .before .before in
     let w = p .before .before .before .before in
     let a = w .before .before .before .before .before .before .args in
-    as-text (networkOf (a .table .now)) (a .out .now) (held (w .before .before)) (aside w) (p .place .ensures)
+    sheet-due (networkOf (a .table .now)) (a .out .now) (on-held (held (w .before .before)) (due-text _ _ (aside w) (p .place .ensures)))
 
 pub whole-spec : {M : Type 1} → statement M
 whole-spec =
