@@ -8,7 +8,7 @@ use lib.ListN.{length, drop}
 use Rattle.lists.specs.Lists.{has}
 use Rattle.lists.specs.Below.{joinBelow}
 use Rattle.refusals.specs.Outcomes.{gives, refuses, valuesOr}
-use Rattle.refusals.specs.Causes.{refuses-any}
+use Rattle.refusals.specs.Causes.{part-answered}
 use Rattle.tables.specs.Layout.{tableEntries, tableOf}
 use Rattle.tables.specs.Holds.{Holds}
 use Rattle.tables.specs.Answers.{Alike}
@@ -27,7 +27,7 @@ use Rattle.reading.specs.Deciding.{whole, sound-ends, none-crowded, none
 
 -- a refused Read changes nothing
 pub kept : (f t : List ℕ) {k : ℕ} → readOutcome f (length t) ≡ refuses k → tableAfter f t ≡ t
-kept f t e = ap (valuesOr t) (refuses-any (readCauses f (length t)) (counts f) (storedTable f t) e)
+kept f t e = sym (ap (valuesOr t) (part-answered (λ c. storedTable f t) (readCauses f (length t)) (counts f) (sym e)))
 
 -- the file is accepted
 module _ (f t : List ℕ) {c : Counts} (e : readOutcome f (length t) ≡ gives c) where

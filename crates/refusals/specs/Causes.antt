@@ -1,20 +1,11 @@
 -- Laws of the first cause. Assumes nothing.
 use mathlib.Core.Bool.{Bool, true, false, cond, _||_, true≢false}
-use mathlib.Core.List.{List, [], _∷_, _++_, append-nil}
+use mathlib.Core.List.{List, [], _∷_, _++_}
 use mathlib.Core.Path.{_≡_, refl, sym, ap, _∙_}
 use Prim.Native.Nat.{ℕ}
 use lib.Dec.{eqb}
-use Rattle.refusals.specs.declared.Refusal.{Refusal}
 use Rattle.refusals.specs.Numbers.{numberOf}
-use Rattle.refusals.specs.Outcomes.{Outcome, gives, refuses, Cause, _⇒_, outcome, valuesOr}
-
-module _ {A : Type 0} (t : Bool) (r : Refusal) (cs : List Cause) (values : A) where
-  -- a cause that holds refuses, and one that does not is passed over
-  pub stops : t ≡ true → outcome ((t ⇒ r) ∷ cs) values ≡ refuses (numberOf r)
-  stops e = rw e
-
-  pub goes-on : t ≡ false → outcome ((t ⇒ r) ∷ cs) values ≡ outcome cs values
-  goes-on e = rw e
+use Rattle.refusals.specs.Outcomes.{Outcome, gives, refuses, Cause, outcome, valuesOr}
 
 abbrev given : {A : Type 0} → Outcome A → Bool
 given (gives values) = true
@@ -88,12 +79,19 @@ module _ {A B : Type 0} where
     pub then-decides : (cs : List Cause) {w : A} → outcome cs u ≡ gives w → outcome (cs ++ ds) v ≡ outcome ds v
     then-decides cs e = joined cs ∙ ap (λ (x : Outcome A). orElse x (outcome ds v)) e
 
--- whether a call is refused does not hang on its values
-pub refuses-any : {A B : Type 0} (cs : List Cause) (u : A) (v : B) {k : ℕ} → outcome cs u ≡ refuses k → outcome cs v ≡ refuses k
-refuses-any cs u v e = ap (λ l. outcome l v) (sym (append-nil cs)) ∙ first-refuses [] u v cs e
+-- ---- a call that gives a part of another's values, and is refused as that one is
 
--- and where values are given, so are others of the same call
-pub gives-part : {A B : Type 0} (cs : List Cause) (values : A) {w : A} (part : A → B) → outcome cs values ≡ gives w → outcome cs (part values) ≡ gives (part w)
-gives-part cs values part e =
-    let z = no-cause cs values e in
-    none-gives cs (part values) (z .0) ∙ ap (λ x. gives (part x)) (sym (z .1))
+module _ {A C : Type 0} (part : A → C) where
+  abbrev pub partOf : Outcome A → Outcome C
+  partOf (gives values) = gives (part values)
+  partOf (refuses number) = refuses number
+
+  part-under : (t : Bool) (k : ℕ) (o : Outcome A) → partOf (cond t (refuses k) o) ≡ cond t (refuses k) (partOf o)
+  part-under true k o = refl
+  part-under false k o = refl
+
+  pub part-answered : (cs : List Cause) (values : A) {o : Outcome A} → o ≡ outcome cs values → partOf o ≡ outcome cs (part values)
+  part-answered [] values e = ap partOf e
+  part-answered (c ∷ cs) values e =
+      let k = numberOf (c .refusal) in
+      ap partOf e ∙ part-under (c .test) k (outcome cs values) ∙ ap (cond (c .test) (refuses k)) (part-answered cs values refl)

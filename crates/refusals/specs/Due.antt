@@ -1,5 +1,5 @@
 -- How a call's causes decide, one after another: what is answered, and what lent entries hold after it. Assumes nothing.
-use mathlib.Core.Bool.{Bool, true, false, cond}
+use mathlib.Core.Bool.{Bool, true, false}
 use mathlib.Core.List.{List, [], _∷_, _++_}
 use mathlib.Core.Path.{_≡_, refl, sym, ap, _∙_}
 use Prim.Native.Nat.{ℕ, _≤_, _<_}
@@ -68,20 +68,3 @@ module _ {A B : Type 0} {values : A} {s x : B} where
           answered = d .answered ∙ sym (then-decides ds u values cs (sym e));
           after = d .after ∙ sym (ap (valuesOr x) (then-decides ds u s cs (sym e)));
         }
-
--- ---- a call that gives a part of another's values, and is refused as that one is
-
-module _ {A C : Type 0} (part : A → C) where
-  abbrev pub partOf : Outcome A → Outcome C
-  partOf (gives values) = gives (part values)
-  partOf (refuses number) = refuses number
-
-  part-under : (t : Bool) (k : ℕ) (o : Outcome A) → partOf (cond t (refuses k) o) ≡ cond t (refuses k) (partOf o)
-  part-under true k o = refl
-  part-under false k o = refl
-
-  pub part-answered : (cs : List Cause) (values : A) {o : Outcome A} → o ≡ outcome cs values → partOf o ≡ outcome cs (part values)
-  part-answered [] values e = ap partOf e
-  part-answered (c ∷ cs) values e =
-      let k = numberOf (c .refusal) in
-      ap partOf e ∙ part-under (c .test) k (outcome cs values) ∙ ap (cond (c .test) (refuses k)) (part-answered cs values refl)

@@ -1,7 +1,7 @@
 -- `lookup::degree` meets its contract. Assumes nothing.
 use borrow.Author.Needs.{needs}
 use mathlib.Core.Path.{_≡_, sym, ap, _∙_}
-use Rattle.refusals.specs.Due.{partOf, part-answered}
+use Rattle.refusals.specs.Causes.{partOf, part-answered}
 use Rattle.tables.specs.Layout.{size}
 use Rattle.tables.specs.Holds.{holds}
 use Rattle.tables.specs.Answers.{busCauses, degreeOutcome}

@@ -64,7 +64,7 @@ module _ (e : tie.Else3) where
 numerator-requires : tie.Need-numerator-requires
 numerator-requires c κs =
     let d = c .before .before .before in
-    ((holding d .shape, has-bus (c .before .before), own-over (holding d .shape) (d .denominator .ensures)), c .before .units .ensures)
+    ((holding d .shape, omega (arith, has-bus (c .before .before)), own-over (holding d .shape) (d .denominator .ensures)), c .before .units .ensures)
 
 bus-numbers-requires : tie.Need-bus-numbers-requires
 bus-numbers-requires c κs =
