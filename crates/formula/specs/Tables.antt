@@ -1,10 +1,12 @@
 -- What a line table has for a network, whichever way its lines run: a bus is watched by the buses of its row.
 -- Definitions only. Assumes nothing.
+use mathlib.Core.Bool.{Bool}
 use mathlib.Core.List.{List}
 use Prim.Native.Nat.{ℕ, suc, _+_, _*_, _≤_, _<_, _∣_}
 use Rattle.lists.specs.Below.{largestBelow, mapBelow}
 use Rattle.game.specs.Game.{Game}
 use Rattle.tables.specs.Layout.{size, row, degree, need}
+use Rattle.formula.specs.Network.{Network}
 
 -- to see a bus is worth 1
 abbrev pub gameOf : List ℕ → Game
@@ -16,6 +18,19 @@ largestDegree t = largestBelow (size t) (degree t)
 -- what L is the least common multiple of: all whole numbers from 1 to 1 plus the largest degree
 unfoldable pub divisorsOf : List ℕ → List ℕ
 divisorsOf t = mapBelow (1 + largestDegree t) suc
+
+-- the network of a table; whether the slice holds one, how many lines it has and whom a bus watches go by which way its lines run
+abbrev pub tableNetwork : List ℕ → Bool → ℕ → (ℕ → List ℕ) → Network
+tableNetwork t held lines watched = record {
+  held = held;
+  buses = size t;
+  lines = lines;
+  needColumn = need t;
+  degreeColumn = degree t;
+  game = gameOf t;
+  watched = watched;
+  divisors = divisorsOf t;
+}
 
 -- the largest L, that of the most lines at a bus
 abbrev pub maxDenominator : ℕ

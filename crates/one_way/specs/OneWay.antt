@@ -3,10 +3,10 @@
 use mathlib.Core.Bool.{Bool, _&&_}
 use mathlib.Core.List.{List}
 use Prim.Native.Nat.{ℕ}
-use Rattle.tables.specs.Layout.{size, needs, starts, last, links, startsAt, row, degree, need}
+use Rattle.tables.specs.Layout.{size, needs, starts, last, links, startsAt, row}
 use Rattle.tables.specs.Holds.{complete, fairNeeds, soundRows}
 use Rattle.formula.specs.Network.{Network, turned}
-use Rattle.formula.specs.Tables.{gameOf, divisorsOf}
+use Rattle.formula.specs.Tables.{tableNetwork}
 
 -- a slice holds a network of one-way lines
 unfoldable pub holdsOneWay : List ℕ → Bool
@@ -14,13 +14,4 @@ holdsOneWay t = complete (startsAt t) t && fairNeeds (needs t) && soundRows (siz
 
 -- neighbour terms run over the buses that a bus leads into
 abbrev pub oneWay : List ℕ → Network
-oneWay t = record {
-  held = holdsOneWay t;
-  buses = size t;
-  lines = last (startsAt t) t;
-  needColumn = need t;
-  degreeColumn = degree t;
-  game = gameOf t;
-  watched = turned (size t) (row t);
-  divisors = divisorsOf t;
-}
+oneWay t = tableNetwork t (holdsOneWay t) (last (startsAt t) t) (turned (size t) (row t))

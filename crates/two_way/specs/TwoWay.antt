@@ -2,19 +2,10 @@
 -- Definitions only. Assumes nothing.
 use mathlib.Core.List.{List}
 use Prim.Native.Nat.{ℕ}
-use Rattle.tables.specs.Layout.{size, row, degree, need, lines}
+use Rattle.tables.specs.Layout.{row, lines}
 use Rattle.tables.specs.Holds.{holds}
 use Rattle.formula.specs.Network.{Network}
-use Rattle.formula.specs.Tables.{gameOf, divisorsOf}
+use Rattle.formula.specs.Tables.{tableNetwork}
 
 abbrev pub networkOf : List ℕ → Network
-networkOf t = record {
-  held = holds t;
-  buses = size t;
-  lines = lines t;
-  needColumn = need t;
-  degreeColumn = degree t;
-  game = gameOf t;
-  watched = row t;
-  divisors = divisorsOf t;
-}
+networkOf t = tableNetwork t (holds t) (lines t) (row t)

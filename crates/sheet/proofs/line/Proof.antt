@@ -70,7 +70,7 @@ bus-numbers-requires : tie.Need-bus-numbers-requires
 bus-numbers-requires c κs =
     let e = c .before .before .before .before in
     let d = e .before in
-    (holding d .shape, has-bus e, omega (arith, own-some (holding d .shape), d .denominator .ensures))
+    (holding d .shape, omega (arith, has-bus e), omega (arith, own-some (holding d .shape), d .denominator .ensures))
 
 place-requires-2 : tie.Need-place-requires-2
 place-requires-2 c κs = (omega (arith, ap length (c .before .before .bus-numbers .ensures)), omega arith)
