@@ -10,7 +10,6 @@ ghost use Rattle.game.specs.Game.{numerator as formula};
 ghost use Rattle.formula.specs.Network.{denominator};
 ghost use Rattle.formula.specs.Tables.{gameOf, Over};
 ghost use Rattle.formula.specs.Formula.{numeratorOver};
-ghost use Rattle.formula.specs.Formula.{numerator as Formula·numerator};
 ghost use Rattle.two_way.specs.TwoWay.{networkOf};
 ghost use Rattle.terms.specs.Unit.{degrees, unit};
 ghost use Rattle.terms.specs.Added.{Added};
@@ -95,7 +94,7 @@ pub fn score_over(table: &[u16], over: u64, numerators: &mut [u64])
 pub fn score(table: &[u16], numerators: &mut [u64]) -> u64
     requires { ⌜ Holds (now table) × (size (now table) ≤ length (now numerators)) ⌝ }
     ensures { λ r. ⌜ r ≡ denominator (networkOf (now (table .entry))) ⌝ }
-    ensures { λ _. ⌜ now (numerators .exit) ≡ put (now (numerators .entry)) 0 (mapBelow (size (now (table .entry))) (Formula·numerator (networkOf (now (table .entry))))) ⌝ }
+    ensures { λ _. ⌜ now (numerators .exit) ≡ put (now (numerators .entry)) 0 (mapBelow (size (now (table .entry))) (numeratorOver (networkOf (now (table .entry))) (denominator (networkOf (now (table .entry)))))) ⌝ }
 {
     let over = denominator(table);
     score_over(table, over, numerators);
