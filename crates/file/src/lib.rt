@@ -6,7 +6,7 @@ ghost use lib.ListN.{length};
 ghost use Rattle.refusals.specs.Outcomes.{outcome};
 ghost use Rattle.tables.specs.Limits.{maxBuses, maxLines};
 ghost use Rattle.tables.specs.Holds.{fairNeeds};
-ghost use Rattle.format.specs.Bytes.{wordAt, busCount, needsEnd, needBytes, lineCount, records, firstEnd, secondEnd};
+ghost use Rattle.format.specs.Bytes.{wordAt, busCount, needsEnd, needBytes, lineCount, fileEnd, records, firstEnd, secondEnd};
 ghost use Rattle.format.specs.Sections.{busSectionCauses, lineCountCauses, missingCauses, endCauses, lineSectionCauses, counts, sectionsOutcome, twoBuses, soundEnds};
 ghost use Rattle.format.specs.Sound.{Sound};
 ghost use Rattle.file.specs.Answers.{countedSays, readingSays};
@@ -109,19 +109,32 @@ pub fn line_count(file: &[u8], n: usize) -> Counted
     Counted::Is(m)
 }
 
+// Where the records of a file of n buses and m lines end, if they are complete.
+pub fn records_end(file: &[u8], n: usize, m: usize) -> Counted
+    requires { ⌜ (n ≡ busCount (now file)) × (n ≤ maxBuses) × (m ≡ lineCount (now file)) × (m ≤ maxLines) ⌝ }
+    ensures { λ r. ⌜ countedSays r ≡ outcome (missingCauses (now (file .entry))) (fileEnd (now (file .entry))) ⌝ }
+{
+    let end = 2 + n + 2 + 4 * m;
+    if file.len() < end {
+        return Counted::Refused(Refusal::FileTooShort);
+    }
+    Counted::Is(end)
+}
+
 // Judges where a file of n buses and m lines ends.
 fn judge_end(file: &[u8], n: usize, m: usize) -> Reading
     requires { ⌜ (n ≡ busCount (now file)) × (n ≤ maxBuses) × (m ≡ lineCount (now file)) × (m ≤ maxLines) ⌝ }
     ensures { λ r. ⌜ readingSays r ≡ outcome (missingCauses (now (file .entry)) ++ endCauses (now (file .entry))) (counts (now (file .entry))) ⌝ }
 {
-    let end = 2 + n + 2 + 4 * m;
-    if file.len() < end {
-        return Reading::Refused(Refusal::FileTooShort);
+    match records_end(file, n, m) {
+        Counted::Refused(cause) => Reading::Refused(cause),
+        Counted::Is(end) => {
+            if end < file.len() {
+                return Reading::Refused(Refusal::FileTooLong);
+            }
+            Reading::Accepted(Counts { buses: n, lines: m })
+        }
     }
-    if end < file.len() {
-        return Reading::Refused(Refusal::FileTooLong);
-    }
-    Reading::Accepted(Counts { buses: n, lines: m })
 }
 
 // Judges what follows the needs of a file of n buses.
