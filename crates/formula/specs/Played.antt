@@ -39,11 +39,11 @@ module _ {t : List ℕ} (w : Scorable t) where
 
   pub largest-few : largestDegree t ≤ maxDegree
   unfolding largestDegree
-  largest-few = largestBelow-le (degree t) maxDegree (size t) degree-few
+  largest-few = largestBelow-le (degree t) maxDegree _ (λ u b. degree-few u (omega (arith, w .complete .least)))
 
   few : (k : ℕ) → k ∈ divisorsOf t → (1 ≤ k) × (k ≤ 1 + maxDegree)
   unfolding divisorsOf
-  few k i = let w = of-up-to (1 + largestDegree t) k i in (w .0, omega (arith, w .1, largest-few))
+  few k i = let w = of-up-to _ k i in (w .0, omega (arith, w .1, largest-few))
 
   pub own-some : 0 < lcmAll (divisorsOf t)
   own-some = multiple-some (divisorsOf t) few
