@@ -51,6 +51,9 @@ at-drop n l k = getD-drop n l k 0
 
 -- ---- parts
 
+pub part-from : (a k : ℕ) (l : List ℕ) → take k (drop a l) ≡ part a (a + k) l
+part-from a k l = let many : k ≡ a + k - a = omega arith in ap (λ n. take n (drop a l)) many
+
 pub length-part : (a e : ℕ) (l : List ℕ) → e ≤ length l → length (part a e l) ≡ e - a
 length-part a e l h = simp (length-take, length-drop) (omega arith)
 

@@ -1,6 +1,8 @@
 // Degree and Row: how many neighbours a bus of a lent table has, which, and where they stand.
 ghost use mathlib.Core.Path.{_≡_};
-ghost use Rattle.tables.specs.Answers.{degreeOutcome, rowOutcome, rowPlaceOutcome, RowStands};
+ghost use Prim.Native.Nat.{_+_, _*_, _≤_};
+ghost use lib.ListN.{length, take, drop};
+ghost use Rattle.tables.specs.Answers.{degreeOutcome, rowOutcome, rowBefore, rowPlaceOutcome, RowStands};
 ghost use Rattle.lookup.specs.Answers.{degreeSays, placeSays};
 pub use network::Refusal;
 use network::table::neighbours;
@@ -44,12 +46,23 @@ pub fn degree(table: &[u16], bus: usize) -> BusDegree
     }
 }
 
-// The part of the lent table that holds a bus's neighbours; the empty part where `degree` refuses.
+// The part of a slice that has so many entries from a start on.
+fn part(slice: &[u16], start: usize, entries: usize) -> &[u16]
+    requires { ⌜ start + entries ≤ length (now slice) ⌝ }
+    ensures { λ r. ⌜ now r ≡ take entries (drop start (now (slice .entry))) ⌝ }
+    ensures { λ r. ⌜ (r .ptr .0 ≡ slice .entry .ptr .0) × (r .ptr .1 ≡ slice .entry .ptr .1 + start * 2) ⌝ }
+{
+    &slice[start..start + entries]
+}
+
+// The part of the lent table that holds a bus's neighbours; the empty part in front of it where `degree` refuses. It is said by
+// what it holds and by where it stands: in the table's block, and so many entries of two bytes behind the table's front.
 pub fn row(table: &[u16], bus: usize) -> &[u16]
-    ensures { λ r. ⌜ now r ≡ rowOutcome (now (table .entry)) bus ⌝ }
+    ensures contents { λ r. ⌜ now r ≡ rowOutcome (now (table .entry)) bus ⌝ }
+    ensures place { λ r. ⌜ (r .ptr .0 ≡ table .entry .ptr .0) × (r .ptr .1 ≡ table .entry .ptr .1 + rowBefore (now (table .entry)) bus * 2) ⌝ }
 {
     match row_place(table, bus) {
-        RowPlace::Refused(_) => &table[..0],
-        RowPlace::At(start, entries) => &table[start..start + entries],
+        RowPlace::Refused(_) => part(table, 0, 0),
+        RowPlace::At(start, entries) => part(table, start, entries),
     }
 }

@@ -27,6 +27,10 @@ degreeOutcome t bus = outcome (busCauses (holds t) (size t) bus) (degree t bus)
 abbrev pub rowOutcome : List ℕ → ℕ → List ℕ
 rowOutcome t bus = valuesOr [] (outcome (busCauses (holds t) (size t) bus) (row t bus))
 
+-- how many entries of the slice stand before that part: none where it is empty by refusal
+abbrev pub rowBefore : List ℕ → ℕ → ℕ
+rowBefore t bus = valuesOr 0 (outcome (busCauses (holds t) (size t) bus) (rowStart t bus))
+
 -- where the row of a bus begins in the slice, and how many entries it has: Row for callers who cannot be handed a part of a slice
 abbrev pub rowPlaceOutcome : List ℕ → ℕ → Outcome (ℕ × ℕ)
 rowPlaceOutcome t bus = outcome (busCauses (holds t) (size t) bus) (rowStart t bus, degree t bus)
@@ -44,4 +48,5 @@ pub record Alike (a b : List ℕ) : Type 0 where
   pub rows : (i : ℕ) → row a i ≡ row b i
   pub degreeAnswers : (bus : ℕ) → degreeOutcome a bus ≡ degreeOutcome b bus
   pub rowAnswers : (bus : ℕ) → rowOutcome a bus ≡ rowOutcome b bus
+  pub rowPlaces : (bus : ℕ) → rowBefore a bus ≡ rowBefore b bus
   pub placeAnswers : (bus : ℕ) → rowPlaceOutcome a bus ≡ rowPlaceOutcome b bus

@@ -58,6 +58,7 @@ module _ (t x : List ℕ) (w : entries (startsAt t) t ≤ length t) where
     rows = row-on;
     degreeAnswers = λ bus. rw (holds-on, size-on (startsAt t) t x w, row-on bus);
     rowAnswers = λ bus. simp (holds-on, size-on (startsAt t) t x w, row-on bus);
+    rowPlaces = λ bus. simp (holds-on, size-on (startsAt t) t x w, starts-on (startsAt t) t x w);
     placeAnswers = λ bus. simp (holds-on, size-on (startsAt t) t x w, starts-on (startsAt t) t x w, row-on bus);
   }
 
@@ -73,5 +74,6 @@ beyond t x y w =
       rows = λ i. a .rows i ∙ sym (b .rows i);
       degreeAnswers = λ bus. a .degreeAnswers bus ∙ sym (b .degreeAnswers bus);
       rowAnswers = λ bus. a .rowAnswers bus ∙ sym (b .rowAnswers bus);
+      rowPlaces = λ bus. a .rowPlaces bus ∙ sym (b .rowPlaces bus);
       placeAnswers = λ bus. a .placeAnswers bus ∙ sym (b .placeAnswers bus);
     }

@@ -10,7 +10,7 @@ use Rattle.lists.specs.Below.{allBelow, sumBelow, joinBelow, mapBelow}
 use Rattle.tables.specs.Limits.{maxLines, maxEntries, maxBytes}
 use Rattle.tables.specs.Layout.{rowAt, laid, needs, starts, links, row, need, lines, tableOf}
 use Rattle.tables.specs.Holds.{within, complete, fairNeeds, neverFall, shortRows, tidy, tidyRow, tidyRows, soundRows, mirrored, twoWay, holds}
-use Rattle.tables.specs.Answers.{degreeOutcome, rowOutcome, rowPlaceOutcome}
+use Rattle.tables.specs.Answers.{degreeOutcome, rowOutcome, rowBefore, rowPlaceOutcome}
 
 most-lines : maxLines ≡ 5888
 most-lines = refl
@@ -101,6 +101,11 @@ path-answers = (refl, refl)
 path-places : map (rowPlaceOutcome (path 1)) (0 ∷ 1 ∷ 2 ∷ 3 ∷ []) ≡ gives (8, 1) ∷ gives (9, 2) ∷ gives (11, 1) ∷ refuses 13 ∷ []
 unfolding path holds twoWay complete within fairNeeds soundRows neverFall shortRows tidyRows tidyRow tidy mirrored rowAt needs starts links row at allBelow
 path-places = refl
+
+-- so many entries stand before the part that Row gives, though rows 0 and 2 hold the same
+path-before : map (rowBefore (path 1)) (0 ∷ 1 ∷ 2 ∷ 3 ∷ []) ≡ 8 ∷ 9 ∷ 11 ∷ 0 ∷ []
+unfolding path holds twoWay complete within fairNeeds soundRows neverFall shortRows tidyRows tidyRow tidy mirrored rowAt needs starts links row at allBelow
+path-before = refl
 
 -- a longer tail
 same-answers : (degreeOutcome (path 1 ++ 9 ∷ 9 ∷ []) 1 ≡ gives 2) × (rowOutcome (path 1 ++ 9 ∷ 9 ∷ []) 1 ≡ 0 ∷ 2 ∷ [])

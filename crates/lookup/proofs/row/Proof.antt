@@ -1,39 +1,42 @@
 -- `lookup::row` meets its contract. Assumes nothing.
 use borrow.Author.Needs.{needs}
 use native.Mathlib.Omega.{arith}
-use mathlib.Core.Path.{_≡_, sym, ap, subst}
-use Prim.Native.Nat.{_+_, _≤_}
-use lib.ListN.{length}
-use Rattle.lists.specs.Lists.{part}
-use Rattle.tables.specs.Answers.{rowOutcome, RowStands}
+use mathlib.Core.Path.{_≡_, sym, ap, subst, _∙_}
+use Rattle.lists.specs.Places.{part-from}
+use Rattle.refusals.specs.Outcomes.{valuesOr}
+use Rattle.refusals.specs.Causes.{partOf, part-answered}
+use Rattle.tables.specs.Layout.{size}
+use Rattle.tables.specs.Holds.{holds}
+use Rattle.tables.specs.Answers.{busCauses, rowBefore, RowStands}
+use Rattle.lookup.specs.declared.RowPlace.{RowPlace}
 use Rattle.lookup.specs.Answers.{placeSays}
 use Rattle.lookup.proofs.row.Statement.{statement}
 use Rattle.lookup.proofs.row.Tie as tie
 
--- the row stands at the place that is given
-module _ (c : tie.After-start) where
-  stands : let a = c .before .before .before .before .args in
-      let start = c .start .given .0 .0 in
-      let entries = c .start .given .0 .1 .0 in
-      (start + entries ≤ length (a .table .now)) × (part start (start + entries) (a .table .now) ≡ rowOutcome (a .table .now) (a .bus))
-  stands = subst (RowStands _ _) (ap placeSays (c .start .given .1)) (c .before .before .row-place .ensures .1)
+-- what row_place answers holds the row, and says what stands before it
+module _ (c : tie.After-row-place) {r : RowPlace} (e : c .row-place .result ≡ r) where
+  stands : let a = c .before .before .args in RowStands (a .table .now) (a .bus) (placeSays r)
+  stands = subst (RowStands _ _) (ap placeSays e) (c .row-place .ensures .1)
 
-add-result : tie.Need-add-result
-add-result c = let z = stands (c .before) .0 in omega arith
+  before : let a = c .before .before .args in rowBefore (a .table .now) (a .bus) ≡ valuesOr 0 (partOf (λ w. w .0) (placeSays r))
+  before =
+      let t = c .before .before .args .table .now in
+      sym (ap (valuesOr 0) (part-answered (λ w. w .0) (busCauses (holds t) (size t) (c .before .before .args .bus)) _ (sym (ap placeSays e) ∙ c .row-place .ensures .0)))
 
-mul-result : tie.Need-mul-result
-mul-result c = let z = stands (c .before) .0 in omega arith
-
-part-result-end : tie.Need-part-result-end
-part-result-end c = stands (c .before) .0
+part-requires-2 : tie.Need-part-requires-2
+part-requires-2 c κs = stands (c .before .before .before) (c .before .start .given .1) .0
 
 returns : tie.Need-returns
 returns c =
     let e = c .before in
-    sym (subst (RowStands _ _) (ap placeSays (e .enum-told .given .1)) (e .before .before .row-place .ensures .1))
+    let z = before (e .before .before) (e .enum-told .given .1) in
+    (c .part .ensures .0 ∙ sym (stands (e .before .before) (e .enum-told .given .1)), (c .part .ensures .1 .0, omega (arith, c .part .ensures .1 .1)))
 
 returns-2 : tie.Need-returns-2
-returns-2 c = stands (c .before .before) .1
+returns-2 c =
+    let e = c .before .before in
+    let z = before (e .before .before) (e .start .given .1) in
+    (c .part2 .ensures .0 ∙ part-from (e .start .given .0 .0) (e .start .given .0 .1 .0) _ ∙ stands (e .before .before) (e .start .given .1) .1, (c .part2 .ensures .1 .0, omega (arith, c .part2 .ensures .1 .1)))
 
 pub row-spec : {M : Type 1} → statement M
 row-spec =
@@ -41,12 +44,8 @@ row-spec =
     (tie.spec
     (λ c κs. search needs)
     (λ c. search needs)
+    (λ c κs. search needs)
     (λ c. search needs)
-    (λ c. search needs)
-    add-result
-    mul-result
-    (λ c. search needs)
-    (λ c. search needs)
-    part-result-end
+    part-requires-2
     returns
     returns-2)
