@@ -9,7 +9,7 @@ ghost use Rattle.tables.specs.Limits.{maxBuses, maxLines};
 ghost use Rattle.file.specs.Answers.{readingSays};
 ghost use Rattle.rows.specs.Held.{held, Rows};
 ghost use Rattle.records.specs.Filling.{SoundRecords};
-ghost use Rattle.reading.specs.Read.{readOutcome, tableAfter};
+ghost use Rattle.reading.specs.Read.{readOutcome, tableAfter, Recorded};
 ghost use Rattle.reading.specs.Stages.{RoomDue, LinesDue, RecordsDue};
 pub use file::Counts;
 pub use file::Reading;
@@ -92,8 +92,9 @@ fn read_records(needs: &[u8], records: &[u8], m: usize, table: &mut [u16]) -> Re
 
 // Reads a file into a lent slice.
 pub fn read(file: &[u8], table: &mut [u16]) -> Reading
-    ensures { λ r. ⌜ readingSays r ≡ readOutcome (now (file .entry)) (length (now (table .entry))) ⌝ }
-    ensures { λ _. ⌜ now (table .exit) ≡ tableAfter (now (file .entry)) (now (table .entry)) ⌝ }
+    ensures answer { λ r. ⌜ readingSays r ≡ readOutcome (now (file .entry)) (length (now (table .entry))) ⌝ }
+    ensures stored { λ _. ⌜ now (table .exit) ≡ tableAfter (now (file .entry)) (now (table .entry)) ⌝ }
+    ensures recorded { λ r. ⌜ Recorded (now (file .entry)) (now (table .entry)) (readingSays r) (now (table .exit)) ⌝ }
 {
     match judge(file) {
         Reading::Refused(cause) => Reading::Refused(cause),

@@ -9,7 +9,7 @@ use Rattle.lists.specs.Tests.{or-none}
 use Rattle.lists.specs.Writes.{put-front}
 use Rattle.refusals.specs.Outcomes.{Outcome, gives}
 use Rattle.refusals.specs.Causes.{NoneHolds, no-cause, none-gives, none-numbered, none-both}
-use Rattle.refusals.specs.Due.{Due, both, stage-pass}
+use Rattle.refusals.specs.Due.{Due, stage-pass}
 use Rattle.format.specs.declared.Counts.{Counts}
 use Rattle.format.specs.Bytes.{busCount, needBytes, lineCount, records}
 use Rattle.format.specs.Sections.{sectionCauses, counts, sectionsOutcome, soundEnds}
@@ -21,9 +21,6 @@ use Rattle.reading.specs.Read.{recordCauses, readCauses, readOutcome, fi
 -- what is due of Read, where a slice that held t is lent
 abbrev pub ReadDue : List ℕ → List ℕ → Outcome Counts → List ℕ → Type 0
 ReadDue f t = Due (readCauses f (length t)) (counts f) (storedTable f t) t
-
-pub read-due : (f t : List ℕ) {o : Outcome Counts} {t′ : List ℕ} → ReadDue f t o t′ → (o ≡ readOutcome f (length t)) × (t′ ≡ tableAfter f t)
-read-due f t d = both d
 
 -- where the sections are sound the records decide
 module _ (f : List ℕ) {c : Counts} (e : sectionsOutcome f ≡ gives c) where

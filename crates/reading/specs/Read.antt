@@ -8,7 +8,7 @@ use lib.Dec.{ltb}
 use lib.ListN.{length, drop}
 use Rattle.lists.specs.Lists.{has}
 use Rattle.refusals.specs.declared.Refusal.the-variants.{LineEnds, CrowdedBus, RepeatedLine, TableTooShort}
-use Rattle.refusals.specs.Outcomes.{Outcome, Cause, _⇒_, outcome, valuesOr}
+use Rattle.refusals.specs.Outcomes.{Outcome, gives, refuses, Cause, _⇒_, outcome, valuesOr}
 use Rattle.tables.specs.Layout.{size, needs, row, lines, tableEntries, tableOf}
 use Rattle.tables.specs.Holds.{Holds}
 use Rattle.format.specs.declared.Counts.{Counts}
@@ -59,3 +59,8 @@ pub record AsRecorded (f t : List ℕ) : Type 0 where
   pub needed : needs t ≡ needBytes f
   pub lined : lines t ≡ lineCount f
   pub joining : (i j : ℕ) → i < busCount f → has j (row t i) ≡ joined (lineCount f) (records f) i j
+
+-- so it is where the answer accepts the file; where it refuses, the slice holds what it held
+abbrev pub Recorded : List ℕ → List ℕ → Outcome Counts → List ℕ → Type 0
+Recorded f t (gives c) t′ = AsRecorded f t′
+Recorded f t (refuses number) t′ = t′ ≡ t

@@ -1,14 +1,15 @@
 -- What Read stored is what the file records, and what it refused left the slice as it was. Assumes nothing.
 use mathlib.Core.Bool.{true}
 use mathlib.Core.List.{List, _++_}
-use mathlib.Core.Path.{_≡_, sym, ap, _∙_}
+use mathlib.Core.Path.{_≡_, sym, ap, subst, _∙_}
 use Prim.Native.Nat.{ℕ, _+_, _*_}
 use native.Mathlib.Omega.{arith}
 use lib.ListN.{length, drop}
 use Rattle.lists.specs.Lists.{has}
 use Rattle.lists.specs.Below.{joinBelow}
-use Rattle.refusals.specs.Outcomes.{gives, refuses, valuesOr}
+use Rattle.refusals.specs.Outcomes.{Outcome, gives, refuses, valuesOr}
 use Rattle.refusals.specs.Causes.{part-answered}
+use Rattle.refusals.specs.Due.{both}
 use Rattle.tables.specs.Layout.{tableEntries, tableOf}
 use Rattle.tables.specs.Holds.{Holds}
 use Rattle.tables.specs.Answers.{Alike}
@@ -22,8 +23,8 @@ use Rattle.format.specs.Sound.{length-needBytes, ends-facts}
 use Rattle.records.specs.Records.{neighbours}
 use Rattle.records.specs.Pairs.{joined-sym, rows-length}
 use Rattle.records.specs.Neighbours.{neighbours-tidy, neighbours-short, neighbours-joined}
-use Rattle.reading.specs.Read.{readCauses, readOutcome, fileTable, storedTable, tableAfter, AsRecorded}
-use Rattle.reading.specs.Deciding.{whole, sound-ends, none-crowded, none-repeated, table-stored}
+use Rattle.reading.specs.Read.{readCauses, readOutcome, fileTable, storedTable, tableAfter, AsRecorded, Recorded}
+use Rattle.reading.specs.Deciding.{ReadDue, whole, sound-ends, none-crowded, none-repeated, table-stored}
 
 -- a refused Read changes nothing
 pub kept : (f t : List ℕ) {k : ℕ} → readOutcome f (length t) ≡ refuses k → tableAfter f t ≡ t
@@ -89,3 +90,11 @@ module _ (f t : List ℕ) {c : Counts} (e : readOutcome f (length t) ≡ gives c
   pub stored-alike : Alike (tableAfter f t) (fileTable f)
   unfolding fileTable
   stored-alike = rw stored (made-beyond n q rows long rest)
+
+-- what is answered and stored as it is due is so for every file and slice
+all-recorded : (f t : List ℕ) (o : Outcome Counts) {t′ : List ℕ} → o ≡ readOutcome f (length t) → t′ ≡ tableAfter f t → Recorded f t o t′
+all-recorded f t (gives c) e s = subst (AsRecorded f) (sym s) (recorded f t (sym e))
+all-recorded f t (refuses k) e s = s ∙ kept f t (sym e)
+
+pub read-recorded : (f t : List ℕ) {o : Outcome Counts} {t′ : List ℕ} → ReadDue f t o t′ → (o ≡ readOutcome f (length t)) × ((t′ ≡ tableAfter f t) × Recorded f t o t′)
+read-recorded f t {o} d = let b = both d in (b .0, (b .1, all-recorded f t o (b .0) (b .1)))

@@ -10,7 +10,8 @@ use Rattle.format.specs.Sections.{sectionCauses, counts, sectionsOutcome}
 use Rattle.format.specs.Sound.{length-needBytes, length-records}
 use Rattle.file.specs.Answers.{readingSays}
 use Rattle.reading.specs.Read.{recordCauses}
-use Rattle.reading.specs.Deciding.{read-due, sound, counted, records-decide}
+use Rattle.reading.specs.Recorded.{read-recorded}
+use Rattle.reading.specs.Deciding.{sound, counted, records-decide}
 use Rattle.reader.proofs.read.Statement.{statement}
 use Rattle.reader.proofs.read.Tie as tie
 
@@ -40,7 +41,7 @@ returns c =
     let a = c .before .before .before .before .before .before .args in
     let f = a .file .now in
     let t = a .table .now in
-    read-due f t
+    read-recorded f t
     (stage-stop (sectionCauses f) (counts f) (recordCauses (busCount f) (lineCount f) (records f) (length t))
     (sym (ap readingSays (c .before .cause .given .1)) ∙ c .before .before .before .judge .ensures))
 
@@ -52,7 +53,7 @@ returns-2 c =
     let a = k .before .before .before .before .before .args in
     let f = a .file .now in
     let t = a .table .now in
-    read-due f t
+    read-recorded f t
     (records-decide f (judged k) t (p .needs .ensures) (ap (λ n. n .lines) (counted f (judged k))) (r .before .before .records .ensures) (r .read-records .ensures))
 
 pub read-spec : {M : Type 1} → statement M

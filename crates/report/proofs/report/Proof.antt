@@ -26,13 +26,13 @@ accepted c = sym (c .before .before .before .read .ensures .0) ∙ ap readingSay
 write-sheet-requires : tie.Need-write-sheet-requires
 write-sheet-requires c κs =
     let e = c .before .before in
-    (rw (e .before .before .before .read .ensures .1) (recorded _ (replicate maxEntries 0) (accepted e) .holding), omega arith)
+    (rw (e .before .before .before .read .ensures .1 .0) (recorded _ (replicate maxEntries 0) (accepted e) .holding), omega arith)
 
 returns : tie.Need-returns
 returns c =
     let e = c .before .before .before in
     let f = e .before .before .before .before .before .before .args .file .now in
-    let p = ap (λ t. wholeSheet (networkOf t)) (e .before .before .before .read .ensures .1) ∙ print-sheet f (replicate maxEntries 0) room (accepted e) in
+    let p = ap (λ t. wholeSheet (networkOf t)) (e .before .before .before .read .ensures .1 .0) ∙ print-sheet f (replicate maxEntries 0) room (accepted e) in
     ((c .write-sheet .ensures .0 .0 ∙ ap length p, omega (arith, c .write-sheet .ensures .0 .1, c .write-sheet .kept .1 .0)), c .write-sheet .ensures .1 ∙ ap (put _ 0) p)
 
 returns-2 : tie.Need-returns-2
