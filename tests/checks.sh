@@ -54,6 +54,6 @@ difference() { # STATUS OUTPUT WORD
     fi
 }
 
-prints() { report "$1" "$(difference "${3-0}" "$2" '')"; } # NAME OUTPUT, and the exit status if it is not 0
-refuses() { echo "refused $2" >"$want"; prints "$1" "$want" "${3-0}"; } # NAME NUMBER, and the exit status if it is not 0
-complains() { report "$1" "$(difference 1 /dev/null "$2")"; } # NAME WORD
+prints() { report "$1" "$(difference 0 "$2" "${3-}")"; } # NAME OUTPUT, and a word in the messages, if there are any
+refuses() { echo "refused $2" >"$want"; report "$1" "$(difference "$3" "$want" "${4-}")"; } # NAME NUMBER STATUS, and such a word
+complains() { report "$1" "$(difference "${3-1}" /dev/null "$2")"; } # NAME WORD, and the exit status if it is not 1

@@ -1,9 +1,16 @@
--- `share_sheet::main` meets its contract: what is printed lies within the buffer. Assumes nothing.
+-- `share_sheet::main` meets its contract: what is judged lies within the buffer. Assumes nothing.
+use Prim.Native.Nat.{_≤_}
 use borrow.Author.Needs.{needs}
-use mathlib.Core.Path.{sym}
+use mathlib.Core.Path.{sym, subst}
+use lib.ListN.{length}
 use lib.Seq.{length-take-le}
+use Rattle.share_sheet.specs.Input.{Within}
 use Rattle.share_sheet.proofs.main.Statement.{statement}
 use Rattle.share_sheet.proofs.main.Tie as tie
+
+-- the bytes that were read lie within the buffer
+within : (c : tie.After-bytes) → c .bytes .given .0 .0 ≤ length (c .before .before .before .read-input .last .0)
+within c = subst (λ r. Within r (length (c .before .before .before .read-input .last .0))) (c .bytes .given .1) (c .before .before .before .read-input .ensures)
 
 pub main-spec : {M : Type 1} → statement M
 main-spec =
@@ -11,14 +18,12 @@ main-spec =
     (tie.spec
     (λ c. search needs)
     (λ c κs. search needs)
+    (λ c. search needs)
+    (λ c. within (c .before))
+    (λ c. sym (length-take-le _ _ (within (c .before .before))))
     (λ c κs. search needs)
+    (λ c. search needs)
     (λ c. search needs)
     (λ c κs. search needs)
     (λ c. search needs)
-    (λ c. search needs)
-    (λ c. search needs)
-    (λ c κs. search needs)
-    (λ c. c .report .ensures .0 .1)
-    (λ c. sym (length-take-le _ _ (c .before .report .ensures .0 .1)))
-    (λ c κs. search needs)
     (λ c. search needs))

@@ -1,0 +1,2 @@
+-- What the program's reading of its input promises: definitions.
+pub mod Input
