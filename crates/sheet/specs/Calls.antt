@@ -1,5 +1,5 @@
 -- How a text and Sheet line come out. Assumes nothing.
-use mathlib.Core.List.{List, [], _∷_, _++_}
+use mathlib.Core.List.{List, _++_}
 use mathlib.Core.Path.{_≡_, refl, sym, ap, _∙_}
 use Prim.Native.Nat.{ℕ, _≤_, _<_}
 use native.Mathlib.Nat.{le-refl}
@@ -9,10 +9,8 @@ use Rattle.lists.specs.Lists.{put}
 use Rattle.lists.specs.Writes.{put-front}
 use Rattle.refusals.specs.Outcomes.{Outcome, gives, refuses}
 use Rattle.refusals.specs.Due.{Due, both, accept, below, not-below}
-use Rattle.fraction.specs.Cancel.{cancelled}
-use Rattle.formula.specs.Network.{Network, denominator}
-use Rattle.formula.specs.Formula.{numerator}
-use Rattle.sheet.specs.Sheet.{headingNumbers, busNumbers, sheetLine}
+use Rattle.formula.specs.Network.{Network}
+use Rattle.sheet.specs.Sheet.{sheetLine}
 use Rattle.sheet.specs.Answers.{textCauses, textOutcome, written, textAfter, lineCauses, lineOutcome, lineAfter}
 
 -- what is due for a text, where bytes that held x are lent
@@ -39,11 +37,3 @@ due-text text x e w = let w = rw e at w in record { answered = w .0; after = w .
 pub line-due : (N : Network) (i : ℕ) (x : List ℕ) {o : Outcome ℕ} {y : List ℕ} → Due (lineCauses N i (length x)) (length (sheetLine N i)) (written (sheetLine N i) x) x o y
     → (o ≡ lineOutcome N i (length x)) × (y ≡ lineAfter N i x)
 line-due N i x d = both d
-
--- the numbers of the heading and of a bus's line, as code reads them
-pub heading-read : (N : Network) {n m L : ℕ} → n ≡ N .buses → m ≡ N .lines → L ≡ denominator N → n ∷ m ∷ L ∷ [] ≡ headingNumbers N
-heading-read N en em eL = rw (en, em, eL)
-
-pub bus-read : (N : Network) {v k d x L p q : ℕ} → k ≡ N .needColumn v → d ≡ N .degreeColumn v → x ≡ numerator N v → L ≡ denominator N → (p, q) ≡ cancelled x L
-    → v ∷ k ∷ d ∷ x ∷ p ∷ q ∷ [] ≡ busNumbers N v
-bus-read N ek ed ex eL s = rw (ek, ed, ap (λ s. s .0) s, ap (λ s. s .1) s, ex, eL)

@@ -1,11 +1,11 @@
 -- No line of a network's sheet has more bytes than `longestLine`. Assumes nothing.
 use mathlib.Core.List.{List, [], _∷_}
-use mathlib.Core.Path.{_≡_, refl, sym, ap, _∙_}
+use mathlib.Core.Path.{_≡_, refl}
 use Prim.Native.Nat.{ℕ, zero, suc, _+_, _*_, _/_, _≤_, _<_}
 use native.Mathlib.Nat.{le-trans, mul-le-mul, div-le-self}
 use native.Mathlib.Omega.{arith}
 use lib.ListN.{length, length-append}
-use Rattle.lists.specs.Lists.{at, put}
+use Rattle.lists.specs.Lists.{at}
 use Rattle.lists.specs.Loops.{sumBelow-next}
 use Rattle.lists.specs.Range.{sumBelow-rises}
 use Rattle.text.specs.Text.{decimal, filled}
@@ -82,20 +82,3 @@ held-short {t} w = record {
   over = own-over (w .shape) refl .few;
   totalWeight = omega (arith, total-weight t, w .shape .complete .most);
 }
-
--- a text that is line i of the sheet has room behind place a, was written into x there, and r is the place behind it
-module _ {N : Network} (w : Short N) {i : ℕ} (b : i ≤ N .buses) {text : List ℕ} (e : text ≡ sheetLine N i) where
-  few : length text ≤ longestLine
-  few = omega (arith, ap length e, line-fits w i b)
-
-  pub line-room : (a : ℕ) {n : ℕ} → a + longestLine ≤ n → a + length text ≤ n
-  line-room a h = omega (arith, few)
-
-  pub line-written : (x : List ℕ) (a : ℕ) {y : List ℕ} {r : ℕ} → r ≡ a + length text → y ≡ put x a text
-      → ((r ≡ a + length (sheetLine N i)) × (r ≤ a + longestLine)) × (y ≡ put x a (sheetLine N i))
-  line-written x a p q = ((p ∙ ap (λ l. a + length l) e, omega (arith, p, few)), q ∙ ap (put x a) e)
-
--- what was written at the front is line i, if it is line j and j is i
-pub line-front : (N : Network) (x : List ℕ) {i j r : ℕ} {y : List ℕ} → i ≡ j → (r ≡ 0 + length (sheetLine N j)) × (r ≤ 0 + longestLine) → y ≡ put x 0 (sheetLine N j)
-    → ((r ≡ length (sheetLine N i)) × (r ≤ longestLine)) × (y ≡ put x 0 (sheetLine N i))
-line-front N x e p q = let e = ap (sheetLine N) e in ((omega (arith, p .0, ap length e), omega (arith, p .1)), q ∙ ap (put x 0) (sym e))

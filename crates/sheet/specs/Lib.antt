@@ -4,5 +4,6 @@ pub mod Answers
 pub mod Examples
 pub mod Work
 pub mod Fits
+pub mod Lines
 pub mod Calls
 pub mod Beyond

@@ -11,8 +11,8 @@ use Rattle.tables.specs.Rows.{length-needs}
 use Rattle.formula.specs.Played.{own-some}
 use Rattle.two_way.specs.TwoWay.{networkOf}
 use Rattle.sheet.specs.Sheet.{busForm, sheetLine}
-use Rattle.sheet.specs.Calls.{bus-read}
-use Rattle.sheet.specs.Fits.{held-short, line-room, line-written}
+use Rattle.sheet.specs.Fits.{held-short}
+use Rattle.sheet.specs.Lines.{bus-read, line-room, line-written}
 use Rattle.sheet.proofs.write_bus.Statement.{statement}
 use Rattle.sheet.proofs.write_bus.Tie as tie
 

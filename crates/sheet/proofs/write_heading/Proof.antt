@@ -7,8 +7,8 @@ use Prim.Native.Nat.{zero-le}
 use Rattle.text.specs.Text.{filled}
 use Rattle.two_way.specs.TwoWay.{networkOf}
 use Rattle.sheet.specs.Sheet.{headingForm, sheetLine}
-use Rattle.sheet.specs.Calls.{heading-read}
-use Rattle.sheet.specs.Fits.{held-short, line-room, line-written}
+use Rattle.sheet.specs.Fits.{held-short}
+use Rattle.sheet.specs.Lines.{heading-read, line-room, line-written}
 use Rattle.sheet.proofs.write_heading.Statement.{statement}
 use Rattle.sheet.proofs.write_heading.Tie as tie
 
