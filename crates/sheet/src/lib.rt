@@ -48,7 +48,9 @@ pub fn write_heading(table: &[u16], over: u64, out: &mut [u8], at: usize) -> usi
     ensures { λ r. ⌜ (r ≡ at + length (sheetLine (networkOf (now (table .entry))) 0)) × (r ≤ at + longestLine) ⌝ }
     ensures { λ _. ⌜ now (out .exit) ≡ put (now (out .entry)) at (sheetLine (networkOf (now (table .entry))) 0) ⌝ }
 {
-    let numbers = [size(table) as u64, lines(table) as u64, over];
+    let buses = size(table) as u64;
+    let lines = lines(table) as u64;
+    let numbers = [buses, lines, over];
     fill(b"buses # lines # over #\n", &numbers, out, at)
 }
 

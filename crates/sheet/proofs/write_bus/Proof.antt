@@ -37,18 +37,18 @@ module _ (c : tie.After-reduce) where
       ap (filled busForm)
       (bus-read (networkOf (start .args .table .now)) (e .entry .ensures .0 ∙ ap (λ q. at q (start .args .bus)) (e .before .needs .ensures)) (ap length (c .before .neighbours .ensures)) (start .pre .1 .1) (start .pre .1 .0) (c .reduce .ensures))
 
-fill-requires : tie.Need-fill-requires
-fill-requires c κs =
-    let r = c .before .before .before in
-    let s = start r in
-    (omega arith, line-room (held-short (s .pre .0 .0)) (s .pre .0 .1) (text r) (s .args .at) (s .pre .0 .2))
-
 returns : tie.Need-returns
 returns c =
     let f = c .before .before in
     let r = f .before .before .before .before in
     let s = start r in
     line-written (held-short (s .pre .0 .0)) (s .pre .0 .1) (text r) (s .args .out .now) (s .args .at) (f .fill .ensures .0) (f .fill .ensures .1)
+
+fill-requires : tie.Need-fill-requires
+fill-requires c κs =
+    let r = c .before .before .before in
+    let s = start r in
+    (omega arith, line-room (held-short (s .pre .0 .0)) (s .pre .0 .1) (text r) (s .args .at) (s .pre .0 .2))
 
 pub write-bus-spec : {M : Type 1} → statement M
 write-bus-spec =

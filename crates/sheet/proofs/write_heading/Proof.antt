@@ -20,18 +20,18 @@ module _ (c : tie.After-lines) where
   text : filled headingForm (c .before .size .result ∷ c .lines .result ∷ start .args .over ∷ []) ≡ sheetLine (networkOf (start .args .table .now)) 0
   text = ap (filled headingForm) (heading-read (networkOf (start .args .table .now)) (c .before .size .ensures .0) (c .lines .ensures) (start .pre .1))
 
-fill-requires : tie.Need-fill-requires
-fill-requires c κs =
-    let l = c .before .before .before in
-    let s = start l in
-    (omega arith, line-room (held-short (s .pre .0)) zero-le (text l) (s .args .at) (s .pre .2))
-
 returns : tie.Need-returns
 returns c =
     let f = c .before .before in
     let l = f .before .before .before .before in
     let s = start l in
     line-written (held-short (s .pre .0)) zero-le (text l) (s .args .out .now) (s .args .at) (f .fill .ensures .0) (f .fill .ensures .1)
+
+fill-requires : tie.Need-fill-requires
+fill-requires c κs =
+    let l = c .before .before .before in
+    let s = start l in
+    (omega arith, line-room (held-short (s .pre .0)) zero-le (text l) (s .args .at) (s .pre .2))
 
 pub write-heading-spec : {M : Type 1} → statement M
 write-heading-spec =
