@@ -22,13 +22,17 @@ held : (c : tie.Else1) → holds (c .before .before .before .before .args .table
 held c = passed (c .before .holds .ensures) (c .if1 .left)
 
 returns : tie.Need-returns
-returns c = line-due (networkOf (c .before .before .before .before .args .table .now)) _ _ (no-network (failed (c .before .holds .ensures) (c .if1 .taken)))
+returns c =
+    let a = c .before .before .before .before .args in
+    line-due (networkOf (a .table .now)) (a .i) (a .out .now) (no-network (failed (c .before .holds .ensures) (c .if1 .taken)))
 
 size-requires : tie.Need-size-requires
 size-requires c κs = let z = holds-facts _ (held c) .shape .complete in omega arith
 
 returns-2 : tie.Need-returns-2
-returns-2 c = line-due (networkOf (c .before .before .before .before .before .before .args .table .now)) _ _ (on-held (held (c .before .before)) (below (c .before .size .ensures .0) refl (c .if2 .taken)))
+returns-2 c =
+    let a = c .before .before .before .before .before .before .args in
+    line-due (networkOf (a .table .now)) (a .i) (a .out .now) (on-held (held (c .before .before)) (below (c .before .size .ensures .0) refl (c .if2 .taken)))
 
 write-line-requires : tie.Need-write-line-requires
 write-line-requires c κs =
@@ -49,7 +53,7 @@ returns-3 c =
     let w = p .before .before .before .before in
     let e = w .before .before in
     let a = e .before .before .before .before .before .before .args in
-    line-due (networkOf (a .table .now)) _ (a .out .now)
+    line-due (networkOf (a .table .now)) (a .i) (a .out .now)
     (on-held (held (e .before .before)) (not-below (e .before .size .ensures .0) refl (e .if2 .left) (due-text _ _ (aside w) (p .place .ensures))))
 
 pub line-spec : {M : Type 1} → statement M
