@@ -19,7 +19,7 @@ ghost use Rattle.scorer.specs.Work.{degrees, termTo, Room};
 use network::Network;
 pub use network::Refusal;
 use network::rows::entry;
-use network::table::needs;
+use network::table::need;
 use network::table::neighbours;
 use network::table::size;
 use table_test::holds;
@@ -70,7 +70,7 @@ fn add_terms(table: &[u16], over: u64, units: &[u64; DEGREES], bus: usize, numer
     ensures { λ _. ⌜ Added (termTo (gameOf (now (table .entry))) over bus) (now (numerators .entry)) (now (numerators .exit)) ⌝ }
 {
     let row = neighbours(table, bus);
-    let need = entry(needs(table), bus);
+    let need = need(table, bus);
     let term = term(need, row.len(), units[row.len()]);
     numerators[bus] += over - (row.len() as u64) * term;
     give(row, term, numerators);
@@ -108,7 +108,7 @@ fn given(table: &[u16], over: u64, bus: usize) -> u64
     ensures { λ r. ⌜ r ≡ neighbour (gameOf (now (table .entry))) over bus ⌝ }
 {
     let degree = neighbours(table, bus).len();
-    let need = entry(needs(table), bus);
+    let need = need(table, bus);
     term(need, degree, unit(over, degree))
 }
 

@@ -15,9 +15,8 @@ use bytes::copy;
 use fraction::reduce;
 use network::Network;
 pub use network::Refusal;
-use network::rows::entry;
 use network::table::lines;
-use network::table::needs;
+use network::table::need;
 use network::table::neighbours;
 use network::table::size;
 use scorer::denominator;
@@ -68,7 +67,7 @@ pub fn write_bus(
     ensures { λ r. ⌜ (r ≡ at + length (sheetLine (networkOf (now (table .entry))) (suc bus))) × (r ≤ at + longestLine) ⌝ }
     ensures { λ _. ⌜ now (out .exit) ≡ put (now (out .entry)) at (sheetLine (networkOf (now (table .entry))) (suc bus)) ⌝ }
 {
-    let need = entry(needs(table), bus) as u64;
+    let need = need(table, bus) as u64;
     let degree = neighbours(table, bus).len() as u64;
     let share = reduce(numerator, over);
     let numbers = [bus as u64, need, degree, numerator, share.top, share.bottom];

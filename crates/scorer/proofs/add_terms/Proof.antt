@@ -6,8 +6,7 @@ use Prim.Native.Nat.{ℕ, _<_}
 use lib.ListN.{length, getD, length-set}
 use Rattle.lists.specs.Lists.{at}
 use Rattle.game.specs.Game.{neighbour}
-use Rattle.tables.specs.Layout.{degree, need}
-use Rattle.tables.specs.Rows.{length-needs}
+use Rattle.tables.specs.Layout.{degree}
 use Rattle.formula.specs.Tables.{gameOf}
 use Rattle.formula.specs.Played.{degree-few}
 use Rattle.terms.specs.Unit.{unit}
@@ -18,53 +17,45 @@ use Rattle.scorer.proofs.Scoring.{row-room, terms-added}
 use Rattle.scorer.proofs.add_terms.Statement.{statement}
 use Rattle.scorer.proofs.add_terms.Tie as tie
 
-entry-requires : tie.Need-entry-requires
-entry-requires c κs =
-    let s = c .before .before .before .before in
-    omega (arith, ap length (c .needs .ensures), length-needs _ (s .pre .0 .0 .complete), s .pre .0 .1)
-
--- the degree, the need and the unit of the bus
-module _ (c : tie.After-entry) where
+-- the degree and the unit of the bus
+module _ (c : tie.After-need) where
   abbrev start : tie.Start
-  start = c .before .before .before .before .before
+  start = c .before .before .before .before
 
   abbrev d : ℕ
-  d = length (c .before .before .neighbours .result .now)
+  d = length (c .before .neighbours .result .now)
 
   degree-is : d ≡ degree (start .args .table .now) (start .args .bus)
-  degree-is = ap length (c .before .before .neighbours .ensures)
+  degree-is = ap length (c .before .neighbours .ensures)
 
   degree-fits : d < degrees
   degree-fits = omega (arith, degree-is, degree-few (start .pre .0 .0) (start .args .bus) (start .pre .0 .1))
-
-  need-is : c .entry .result ≡ need (start .args .table .now) (start .args .bus)
-  need-is = c .entry .ensures .0 ∙ ap (λ q. at q (start .args .bus)) (c .before .needs .ensures)
 
   unit-is : getD (start .args .units .now) d 0 ≡ unit (start .args .over) d
   unfolding at
   unit-is = start .pre .1 .0 _ degree-fits
 
 term-requires : tie.Need-term-requires
-term-requires c κs = let e = c .before in let s = start e in term-asks (s .pre .0 .0) (s .pre .0 .2) (s .pre .0 .1) (degree-is e) (need-is e) (unit-is e)
+term-requires c κs = let n = c .before in let s = start n in term-asks (s .pre .0 .0) (s .pre .0 .2) (s .pre .0 .1) (degree-is n) (n .need .ensures) (unit-is n)
 
 -- what it gives to each neighbour
 gives : (c : tie.After-term) → let s = start (c .before .before) in c .term .result ≡ neighbour (gameOf (s .args .table .now)) (s .args .over) (s .args .bus)
 gives c =
-    let e = c .before .before in
-    let s = start e in
-    term-read (s .pre .0 .0) (s .pre .0 .2) (s .pre .0 .1) (degree-is e) (need-is e) (unit-is e) (c .term .ensures)
+    let n = c .before .before in
+    let s = start n in
+    term-read (s .pre .0 .0) (s .pre .0 .2) (s .pre .0 .1) (degree-is n) (n .need .ensures) (unit-is n) (c .term .ensures)
 
 mul-numerators : tie.Need-mul-numerators
 mul-numerators c =
-    let e = c .before .before in
-    let s = start e in
-    omega (arith, rest-fits (s .pre .0 .0) (s .pre .0 .2) (s .pre .0 .1) (e .before .before .neighbours .ensures) (gives c), s .pre .0 .2 .few)
+    let n = c .before .before in
+    let s = start n in
+    omega (arith, rest-fits (s .pre .0 .0) (s .pre .0 .2) (s .pre .0 .1) (n .before .neighbours .ensures) (gives c), s .pre .0 .2 .few)
 
 sub-numerators : tie.Need-sub-numerators
 sub-numerators c =
-    let e = c .before .before in
-    let s = start e in
-    rest-fits (s .pre .0 .0) (s .pre .0 .2) (s .pre .0 .1) (e .before .before .neighbours .ensures) (gives c)
+    let n = c .before .before in
+    let s = start n in
+    rest-fits (s .pre .0 .0) (s .pre .0 .2) (s .pre .0 .1) (n .before .neighbours .ensures) (gives c)
 
 -- the bus has an entry
 slice-read-numerators : tie.Need-slice-read-numerators
@@ -81,9 +72,9 @@ give-requires : tie.Need-give-requires
 unfolding at
 give-requires c κs =
     let p = c .before .before in
-    let e = p .before .before in
-    let s = start e in
-    row-room (s .pre .0 .0) (s .pre .0 .2) (s .pre .0 .1) (e .before .before .neighbours .ensures) (gives p) (s .args .numerators .now) (s .pre .1 .1)
+    let n = p .before .before in
+    let s = start n in
+    row-room (s .pre .0 .0) (s .pre .0 .2) (s .pre .0 .1) (n .before .neighbours .ensures) (gives p) (s .args .numerators .now) (s .pre .1 .1)
 
 same-length : tie.Need-same-length
 same-length c =
@@ -95,9 +86,9 @@ unfolding at
 returns c =
     let g = c .before .before in
     let p = g .before .before .before in
-    let e = p .before .before in
-    let s = start e in
-    terms-added (s .pre .0 .0) (s .pre .0 .2) (s .pre .0 .1) (e .before .before .neighbours .ensures) (gives p) (s .args .numerators .now) (s .pre .1 .1) (g .give .ensures)
+    let n = p .before .before in
+    let s = start n in
+    terms-added (s .pre .0 .0) (s .pre .0 .2) (s .pre .0 .1) (n .before .neighbours .ensures) (gives p) (s .args .numerators .now) (s .pre .1 .1) (g .give .ensures)
 
 pub add-terms-spec : {M : Type 1} → statement M
 add-terms-spec =
@@ -105,7 +96,6 @@ add-terms-spec =
     (tie.spec
     (λ c κs. search needs)
     (λ c κs. search needs)
-    entry-requires
     (λ c. omega (arith, degree-fits c))
     degree-fits
     term-requires

@@ -2,12 +2,10 @@
 use borrow.Author.Needs.{needs}
 use native.Mathlib.Omega.{arith}
 use mathlib.Core.List.{[], _∷_}
-use mathlib.Core.Path.{_≡_, ap, _∙_}
+use mathlib.Core.Path.{_≡_, ap}
 use Prim.Native.Nat.{suc}
 use lib.ListN.{length}
-use Rattle.lists.specs.Lists.{at}
 use Rattle.text.specs.Text.{filled}
-use Rattle.tables.specs.Rows.{length-needs}
 use Rattle.formula.specs.Played.{own-some}
 use Rattle.two_way.specs.TwoWay.{networkOf}
 use Rattle.sheet.specs.Sheet.{busForm, sheetLine}
@@ -16,26 +14,20 @@ use Rattle.sheet.specs.Lines.{bus-read, line-room, line-written}
 use Rattle.sheet.proofs.write_bus.Statement.{statement}
 use Rattle.sheet.proofs.write_bus.Tie as tie
 
-entry-requires : tie.Need-entry-requires
-entry-requires c κs =
-    let s = c .before .before .before in
-    omega (arith, length-needs _ (s .pre .0 .0 .shape .complete), ap length (c .needs .ensures), s .pre .0 .1)
-
 reduce-requires : tie.Need-reduce-requires
-reduce-requires c κs = let s = c .before .before .before .before .before in omega (arith, own-some (s .pre .0 .0 .shape), s .pre .1 .0)
+reduce-requires c κs = let s = c .before .before .before .before in omega (arith, own-some (s .pre .0 .0 .shape), s .pre .1 .0)
 
 -- the text that is filled in is the line of the bus
 module _ (c : tie.After-reduce) where
   abbrev start : tie.Start
-  start = c .before .before .before .before .before .before
+  start = c .before .before .before .before .before
 
   text : let a = start .args in
-      filled busForm (a .bus ∷ c .before .before .entry .result ∷ length (c .before .neighbours .result .now) ∷ a .numerator ∷ c .reduce .result .top ∷ c .reduce .result .bottom ∷ [])
+      filled busForm (a .bus ∷ c .before .before .need .result ∷ length (c .before .neighbours .result .now) ∷ a .numerator ∷ c .reduce .result .top ∷ c .reduce .result .bottom ∷ [])
       ≡ sheetLine (networkOf (a .table .now)) (suc (a .bus))
   text =
-      let e = c .before .before in
       ap (filled busForm)
-      (bus-read (networkOf (start .args .table .now)) (e .entry .ensures .0 ∙ ap (λ q. at q (start .args .bus)) (e .before .needs .ensures)) (ap length (c .before .neighbours .ensures)) (start .pre .1 .1) (start .pre .1 .0) (c .reduce .ensures))
+      (bus-read (networkOf (start .args .table .now)) (c .before .before .need .ensures) (ap length (c .before .neighbours .ensures)) (start .pre .1 .1) (start .pre .1 .0) (c .reduce .ensures))
 
 returns : tie.Need-returns
 returns c =
@@ -55,7 +47,6 @@ write-bus-spec =
     tie.close
     (tie.spec
     (λ c κs. search needs)
-    entry-requires
     (λ c κs. search needs)
     reduce-requires
     (λ c. search needs)
