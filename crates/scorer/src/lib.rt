@@ -128,7 +128,7 @@ fn numerator(table: &[u16], over: u64, bus: usize) -> u64
     sum
 }
 
-// The numerator of one bus of a network over its own L.
+// The numerator of one bus over the network's own L, and that L.
 pub fn share_of(table: &[u16], bus: usize) -> BusShare
     requires { ⌜ Holds (now table) × (bus < size (now table)) ⌝ }
     ensures { λ r. ⌜ (r .numerator ≡ numerator (networkOf (now (table .entry))) bus) × (r .over ≡ denominator (networkOf (now (table .entry)))) ⌝ }
@@ -136,7 +136,7 @@ pub fn share_of(table: &[u16], bus: usize) -> BusShare
     let over = denominator(table);
     BusShare {
         numerator: numerator(table, over, bus),
-        over: over,
+        over,
     }
 }
 
