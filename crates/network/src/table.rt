@@ -3,7 +3,7 @@ ghost use mathlib.Core.Path.{_≡_};
 ghost use Prim.Native.Nat.{_+_, _≤_, _<_};
 ghost use lib.ListN.{length};
 ghost use Rattle.tables.specs.Limits.{maxBuses, maxLines};
-ghost use Rattle.tables.specs.Layout.{size, needs, starts, links, startsAt, row, rowStart, lines, tableEntries};
+ghost use Rattle.tables.specs.Layout.{size, needs, need, starts, links, startsAt, row, rowStart, lines, tableEntries};
 ghost use Rattle.tables.specs.Holds.{Complete, Scorable, Holds};
 use super::rows::entry;
 use super::rows::row_at;
@@ -60,6 +60,14 @@ pub fn neighbours(table: &[u16], bus: usize) -> &[u16]
 {
     let h = starts_at(table);
     row_at(starts(table, h), links(table, h), bus)
+}
+
+// The need of a bus.
+pub fn need(table: &[u16], bus: usize) -> usize
+    requires { ⌜ Scorable (now table) × (bus < size (now table)) ⌝ }
+    ensures { λ r. ⌜ r ≡ need (now (table .entry)) bus ⌝ }
+{
+    entry(needs(table), bus)
 }
 
 // Where the neighbours of a bus begin in the table.

@@ -15,7 +15,7 @@ use Rattle.reading.specs.Recorded.{stored-alike}
 use Rattle.two_way.specs.TwoWay.{networkOf}
 use Rattle.two_way.specs.Same.{same-network}
 use Rattle.whole_sheet.specs.Whole.{wholeSheet}
-use Rattle.whole_sheet.specs.Work.{longestLine}
+use Rattle.sheet.specs.Work.{longestLine}
 use Rattle.report.specs.Report.{refusedForm, refusedLine, sheetOr, printed}
 
 -- the line of a number of one byte is no longer than those of sheets

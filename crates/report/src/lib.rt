@@ -4,7 +4,7 @@ ghost use Prim.Native.Nat.{_≤_};
 ghost use lib.ListN.{length};
 ghost use Rattle.lists.specs.Lists.{put};
 ghost use Rattle.refusals.specs.Numbers.{numberOf};
-ghost use Rattle.whole_sheet.specs.Work.{longestLine};
+ghost use Rattle.sheet.specs.Work.{longestLine};
 ghost use Rattle.report.specs.Report.{refusedLine, printed};
 use network::Network;
 use reader::Reading;

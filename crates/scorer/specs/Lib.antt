@@ -1,4 +1,5 @@
--- What answers of Shares and Share stand for, and computed examples; what the scorer's functions promise one another.
+-- What answers of Shares and Share stand for, and computed examples; what the scorer's functions promise one another; and that entries beyond the table never matter.
 pub mod Answers
 pub mod Work
 pub mod Examples
+pub mod Beyond

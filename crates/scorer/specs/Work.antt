@@ -1,4 +1,4 @@
--- What the scorer's functions promise one another when the terms of all buses are added up.
+-- What the scorer's functions promise one another when all buses are scored.
 -- Definitions only. Assumes nothing.
 use mathlib.Core.List.{List}
 use Prim.Native.Nat.{ℕ, _+_, _*_, _^_, _<_}
@@ -6,6 +6,11 @@ use lib.Dec.{eqb}
 use lib.ListN.{length}
 use Rattle.lists.specs.Lists.{tally, count, at}
 use Rattle.game.specs.Game.{Game, own, neighbour}
+use Rattle.tables.specs.Limits.{maxDegree}
+
+-- how many degrees a bus may have
+abbrev pub degrees : ℕ
+degrees = maxDegree + 1
 
 -- what bus u gives to the numerator of bus v, over L: its own term to its own, and its neighbour's term to that of each of its watchers
 unfoldable pub termTo : Game → ℕ → ℕ → ℕ → ℕ

@@ -6,27 +6,28 @@ ghost use Rattle.lists.specs.Lists.{Tabled, put};
 ghost use Rattle.lists.specs.Below.{mapBelow, range};
 ghost use Rattle.tables.specs.Layout.{size};
 ghost use Rattle.tables.specs.Holds.{Scorable, Holds};
-ghost use Rattle.game.specs.Game.{numerator as formula};
+ghost use Rattle.game.specs.Game.{neighbour, numerator as formula};
 ghost use Rattle.formula.specs.Network.{denominator};
 ghost use Rattle.formula.specs.Tables.{gameOf, Over};
-ghost use Rattle.formula.specs.Formula.{numeratorOver};
+ghost use Rattle.formula.specs.Formula.{numeratorOver, numerator};
 ghost use Rattle.two_way.specs.TwoWay.{networkOf};
-ghost use Rattle.terms.specs.Unit.{degrees, unit};
+ghost use Rattle.terms.specs.Unit.{unit};
 ghost use Rattle.terms.specs.Added.{Added};
 ghost use Rattle.shares.specs.Answers.{sharesOutcome, numeratorsAfter, AllFair, shareOutcome, OneFair};
 ghost use Rattle.scorer.specs.Answers.{sharesSays, shareSays};
-ghost use Rattle.scorer.specs.Work.{termTo, Room};
+ghost use Rattle.scorer.specs.Work.{degrees, termTo, Room};
+use network::Network;
 pub use network::Refusal;
 use network::rows::entry;
+use network::table::need;
 use network::table::neighbours;
 use network::table::size;
 use table_test::holds;
-use terms::Degrees;
 use terms::clear;
-use terms::denominator;
+pub use terms::denominator;
 use terms::give;
 use terms::term;
-use terms::units;
+use terms::unit;
 
 // The number that all numerators are over, or why there are none.
 pub enum AllShares {
@@ -40,37 +41,37 @@ pub enum OneShare {
     Refused(Refusal),
 }
 
-// The numerator of one bus: what its neighbours leave it of its own L, which is its own term, and what they give it.
-pub fn numerator(table: &[u16], over: u64, units: &[u64; Degrees::ALL], bus: usize) -> u64
-    requires { ⌜ Scorable (now table) × (bus < size (now table)) × Over (now table) over ⌝ }
-    requires { ⌜ Tabled degrees (unit over) (now units) ⌝ }
-    ensures { λ r. ⌜ r ≡ numeratorOver (networkOf (now (table .entry))) over bus ⌝ }
+// A numerator, and the number that it is over.
+pub struct BusShare {
+    pub numerator: u64,
+    pub over: u64,
+}
+
+// How many degrees a bus may have.
+const DEGREES: usize = Network::LINES_AT_BUS + 1;
+
+// The unit of each degree, so that no bus needs a division.
+fn units(over: u64) -> [u64; DEGREES]
+    ensures { λ r. ⌜ Tabled degrees (unit over) r ⌝ }
 {
-    let row = neighbours(table, bus);
-    let mut sum = over - (row.len() as u64) * term(table, over, units, bus);
-    let mut k = 0;
-    while k < row.len() {
-        let neighbour = entry(row, k);
-        sum += term(table, over, units, neighbour);
-        k += 1;
+    let mut units = [0u64; DEGREES];
+    let mut degree = 0;
+    while degree < DEGREES {
+        units[degree] = unit(over, degree);
+        degree += 1;
     }
-    sum
+    units
 }
 
 // Adds the terms of a bus: to its own entry what is left of its L, and to the entry of each bus in its row what it gives.
-fn add_terms(
-    table: &[u16],
-    over: u64,
-    units: &[u64; Degrees::ALL],
-    bus: usize,
-    numerators: &mut [u64],
-)
+fn add_terms(table: &[u16], over: u64, units: &[u64; DEGREES], bus: usize, numerators: &mut [u64])
     requires { ⌜ Scorable (now table) × (bus < size (now table)) × Over (now table) over ⌝ }
     requires { ⌜ Tabled degrees (unit over) (now units) × Room (size (now table)) over (now numerators) ⌝ }
     ensures { λ _. ⌜ Added (termTo (gameOf (now (table .entry))) over bus) (now (numerators .entry)) (now (numerators .exit)) ⌝ }
 {
     let row = neighbours(table, bus);
-    let term = term(table, over, units, bus);
+    let need = need(table, bus);
+    let term = term(need, row.len(), units[row.len()]);
     numerators[bus] += over - (row.len() as u64) * term;
     give(row, term, numerators);
 }
@@ -101,6 +102,44 @@ pub fn score(table: &[u16], numerators: &mut [u64]) -> u64
     over
 }
 
+// What a bus gives to each neighbour.
+fn given(table: &[u16], over: u64, bus: usize) -> u64
+    requires { ⌜ Scorable (now table) × (bus < size (now table)) × Over (now table) over ⌝ }
+    ensures { λ r. ⌜ r ≡ neighbour (gameOf (now (table .entry))) over bus ⌝ }
+{
+    let degree = neighbours(table, bus).len();
+    let need = need(table, bus);
+    term(need, degree, unit(over, degree))
+}
+
+// The numerator of one bus: what its neighbours leave it of its own L, which is its own term, and what they give it.
+fn numerator(table: &[u16], over: u64, bus: usize) -> u64
+    requires { ⌜ Scorable (now table) × (bus < size (now table)) × Over (now table) over ⌝ }
+    ensures { λ r. ⌜ r ≡ numeratorOver (networkOf (now (table .entry))) over bus ⌝ }
+{
+    let row = neighbours(table, bus);
+    let mut sum = over - (row.len() as u64) * given(table, over, bus);
+    let mut k = 0;
+    while k < row.len() {
+        let neighbour = entry(row, k);
+        sum += given(table, over, neighbour);
+        k += 1;
+    }
+    sum
+}
+
+// The numerator of one bus over the network's own L, and that L.
+pub fn share_of(table: &[u16], bus: usize) -> BusShare
+    requires { ⌜ Holds (now table) × (bus < size (now table)) ⌝ }
+    ensures { λ r. ⌜ (r .numerator ≡ numerator (networkOf (now (table .entry))) bus) × (r .over ≡ denominator (networkOf (now (table .entry)))) ⌝ }
+{
+    let over = denominator(table);
+    BusShare {
+        numerator: numerator(table, over, bus),
+        over,
+    }
+}
+
 // The shares of all buses: the numerators are stored, and what they are over is given.
 pub fn shares(table: &[u16], numerators: &mut [u64]) -> AllShares
     ensures answer { λ r. ⌜ sharesSays r ≡ sharesOutcome (networkOf (now (table .entry))) (length (now (numerators .entry))) ⌝ }
@@ -128,7 +167,6 @@ pub fn share(table: &[u16], bus: usize) -> OneShare
     if size(table) <= bus {
         return OneShare::Refused(Refusal::NoSuchBus);
     }
-    let over = denominator(table);
-    let units = units(over);
-    OneShare::Is(numerator(table, over, &units, bus), over)
+    let share = share_of(table, bus);
+    OneShare::Is(share.numerator, share.over)
 }

@@ -20,13 +20,10 @@ abbrev pub busForm : List ℕ
 busForm = 35 ∷ 32 ∷ 35 ∷ 32 ∷ 35 ∷ 32 ∷ 35 ∷ 32 ∷ 35 ∷ 47 ∷ 35 ∷ 10 ∷ []
 
 -- bus, need, degree, numerator and the cancelled share
-abbrev pub shareNumbers : ℕ → ℕ → ℕ → ℕ → ℕ → List ℕ
-shareNumbers v k d x L =
-    let share = cancelled x L in
-    v ∷ k ∷ d ∷ x ∷ share .0 ∷ share .1 ∷ []
-
 abbrev pub busNumbers : Network → ℕ → List ℕ
-busNumbers N v = shareNumbers v (N .needColumn v) (N .degreeColumn v) (numerator N v) (denominator N)
+busNumbers N v =
+    let share = cancelled (numerator N v) (denominator N) in
+    v ∷ N .needColumn v ∷ N .degreeColumn v ∷ numerator N v ∷ share .0 ∷ share .1 ∷ []
 
 -- sheet line 0 is the heading; line i is that of bus i - 1
 abbrev pub sheetLine : Network → ℕ → List ℕ

@@ -1,28 +1,28 @@
 // Share sheets: the text of one line, from a line table.
 ghost use mathlib.Core.Path.{_≡_};
-ghost use Prim.Native.Nat.{_^_, _≤_, _<_};
+ghost use Prim.Native.Nat.{suc, _+_, _≤_, _<_};
 ghost use lib.ListN.{length};
-ghost use Rattle.lists.specs.Lists.{count};
-ghost use Rattle.text.specs.Text.{sign, filled};
-ghost use Rattle.tables.specs.Layout.{size, need, degree};
-ghost use Rattle.tables.specs.Holds.{Scorable, Holds};
+ghost use Rattle.lists.specs.Lists.{put};
+ghost use Rattle.tables.specs.Layout.{size};
+ghost use Rattle.tables.specs.Holds.{Holds};
 ghost use Rattle.formula.specs.Network.{denominator};
+ghost use Rattle.formula.specs.Formula.{numerator as numeratorOf};
 ghost use Rattle.two_way.specs.TwoWay.{networkOf};
-ghost use Rattle.sheet.specs.Sheet.{headingNumbers, shareNumbers};
+ghost use Rattle.sheet.specs.Sheet.{sheetLine};
 ghost use Rattle.sheet.specs.Answers.{writtenSays, textOutcome, textAfter, lineOutcome, lineAfter};
+ghost use Rattle.sheet.specs.Work.{longestLine};
+use bytes::copy;
 use fraction::reduce;
+use network::Network;
 pub use network::Refusal;
-use network::rows::entry;
 use network::table::lines;
-use network::table::needs;
+use network::table::need;
 use network::table::neighbours;
 use network::table::size;
-use scorer::numerator;
+use scorer::denominator;
+use scorer::share_of;
 use table_test::holds;
-use terms::denominator;
-use terms::units;
 use text::fill;
-use text::measure;
 
 // How many bytes of text were written, or why none were.
 pub enum Written {
@@ -30,47 +30,76 @@ pub enum Written {
     Refused(Refusal),
 }
 
-// The lines of a sheet; each `#` stands for a number.
-pub struct Template;
+// Bytes that are enough for texts.
+pub struct Longest;
 
-impl Template {
-    pub const HEADING: [u8; 23] = *b"buses # lines # over #\n";
+impl Longest {
+    // For every line of a sheet.
+    pub const LINE: usize = 49;
 
-    pub const BUS: [u8; 12] = *b"# # # # #/#\n";
+    // For every sheet: the heading, and a line for each bus.
+    pub const SHEET: usize = Longest::LINE * (1 + Network::BUSES);
 }
 
-// The numbers of the heading.
-pub fn heading_numbers(table: &[u16], over: u64) -> [u64; 3]
-    requires { ⌜ Holds (now table) × (over ≡ denominator (networkOf (now table))) ⌝ }
-    ensures { λ r. ⌜ r ≡ headingNumbers (networkOf (now (table .entry))) ⌝ }
+// Writes the heading, and gives the place behind it.
+pub fn write_heading(table: &[u16], over: u64, out: &mut [u8], at: usize) -> usize
+    requires { ⌜ Holds (now table) × (over ≡ denominator (networkOf (now table))) × (at + longestLine ≤ length (now out)) ⌝ }
+    ensures { λ r. ⌜ (r ≡ at + length (sheetLine (networkOf (now (table .entry))) 0)) × (r ≤ at + longestLine) ⌝ }
+    ensures { λ _. ⌜ now (out .exit) ≡ put (now (out .entry)) at (sheetLine (networkOf (now (table .entry))) 0) ⌝ }
 {
-    [size(table) as u64, lines(table) as u64, over]
+    let buses = size(table) as u64;
+    let lines = lines(table) as u64;
+    let numbers = [buses, lines, over];
+    fill(b"buses # lines # over #\n", &numbers, out, at)
 }
 
-// The numbers of a bus's line, whose numerator is known.
-pub fn bus_numbers(table: &[u16], over: u64, numerator: u64, bus: usize) -> [u64; 6]
-    requires { ⌜ Scorable (now table) × (bus < size (now table)) × (0 < over) ⌝ }
-    ensures { λ r. ⌜ r ≡ shareNumbers bus (need (now (table .entry)) bus) (degree (now (table .entry)) bus) numerator over ⌝ }
+// Writes the line of a bus whose numerator is known, and gives the place behind it.
+pub fn write_bus(
+    table: &[u16],
+    over: u64,
+    numerator: u64,
+    bus: usize,
+    out: &mut [u8],
+    at: usize,
+) -> usize
+    requires { ⌜ Holds (now table) × (bus < size (now table)) × (at + longestLine ≤ length (now out)) ⌝ }
+    requires { ⌜ (over ≡ denominator (networkOf (now table))) × (numerator ≡ numeratorOf (networkOf (now table)) bus) ⌝ }
+    ensures { λ r. ⌜ (r ≡ at + length (sheetLine (networkOf (now (table .entry))) (suc bus))) × (r ≤ at + longestLine) ⌝ }
+    ensures { λ _. ⌜ now (out .exit) ≡ put (now (out .entry)) at (sheetLine (networkOf (now (table .entry))) (suc bus)) ⌝ }
 {
-    let need = entry(needs(table), bus) as u64;
+    let need = need(table, bus) as u64;
     let degree = neighbours(table, bus).len() as u64;
     let share = reduce(numerator, over);
-    [bus as u64, need, degree, numerator, share.top, share.bottom]
+    let numbers = [bus as u64, need, degree, numerator, share.top, share.bottom];
+    fill(b"# # # # #/#\n", &numbers, out, at)
 }
 
-// Writes a template with its numbers at the front of a slice that is long enough.
-pub fn place(template: &[u8], numbers: &[u64], out: &mut [u8]) -> Written
-    requires { ⌜ (count sign (now template) ≤ length (now numbers)) × (length (now template) < 2 ^ 32) ⌝ }
-    ensures { λ r. ⌜ writtenSays r ≡ textOutcome (filled (now (template .entry)) (now (numbers .entry))) (length (now (out .entry))) ⌝ }
-    ensures { λ _. ⌜ now (out .exit) ≡ textAfter (filled (now (template .entry)) (now (numbers .entry))) (now (out .entry)) ⌝ }
+// Writes sheet line i at the front: line 0 is the heading, line i that of bus i - 1.
+fn write_line(table: &[u16], i: usize, out: &mut [u8]) -> usize
+    requires { ⌜ Holds (now table) × (i ≤ size (now table)) × (longestLine ≤ length (now out)) ⌝ }
+    ensures { λ r. ⌜ (r ≡ length (sheetLine (networkOf (now (table .entry))) i)) × (r ≤ longestLine) ⌝ }
+    ensures { λ _. ⌜ now (out .exit) ≡ put (now (out .entry)) 0 (sheetLine (networkOf (now (table .entry))) i) ⌝ }
 {
-    if out.len() < measure(template, numbers) {
+    if i == 0 {
+        return write_heading(table, denominator(table), out, 0);
+    }
+    let bus = i - 1;
+    let share = share_of(table, bus);
+    write_bus(table, share.over, share.numerator, bus, out, 0)
+}
+
+// Copies a text to the front of a lent slice, if that is long enough.
+pub fn place(text: &[u8], out: &mut [u8]) -> Written
+    ensures { λ r. ⌜ writtenSays r ≡ textOutcome (now (text .entry)) (length (now (out .entry))) ⌝ }
+    ensures { λ _. ⌜ now (out .exit) ≡ textAfter (now (text .entry)) (now (out .entry)) ⌝ }
+{
+    if out.len() < text.len() {
         return Written::Refused(Refusal::TextTooShort);
     }
-    Written::Bytes(fill(template, numbers, out, 0))
+    Written::Bytes(copy(text, out))
 }
 
-// Writes sheet line i at the front of a lent slice: line 0 is the heading, line i that of bus i - 1.
+// Writes sheet line i at the front of a lent slice. It is written aside first, since a refused call changes nothing.
 pub fn line(table: &[u16], i: usize, out: &mut [u8]) -> Written
     ensures answer { λ r. ⌜ writtenSays r ≡ lineOutcome (networkOf (now (table .entry))) i (length (now (out .entry))) ⌝ }
     ensures text { λ _. ⌜ now (out .exit) ≡ lineAfter (networkOf (now (table .entry))) i (now (out .entry)) ⌝ }
@@ -81,16 +110,7 @@ pub fn line(table: &[u16], i: usize, out: &mut [u8]) -> Written
     if size(table) < i {
         return Written::Refused(Refusal::NoSuchBus);
     }
-    let over = denominator(table);
-    if i == 0 {
-        return place(&Template::HEADING, &heading_numbers(table, over), out);
-    }
-    let bus = i - 1;
-    let units = units(over);
-    let numerator = numerator(table, over, &units, bus);
-    place(
-        &Template::BUS,
-        &bus_numbers(table, over, numerator, bus),
-        out,
-    )
+    let mut text = [0u8; Longest::LINE];
+    let bytes = write_line(table, i, &mut text);
+    place(&text[..bytes], out)
 }

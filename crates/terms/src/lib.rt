@@ -2,29 +2,19 @@
 ghost use mathlib.Core.Path.{_≡_};
 ghost use Prim.Native.Nat.{ℕ, suc, _+_, _*_, _^_, _≤_, _<_};
 ghost use lib.ListN.{length, replicate};
-ghost use Rattle.lists.specs.Lists.{count, _∈_, at, Tabled, put};
+ghost use Rattle.lists.specs.Lists.{count, _∈_, at, put};
 ghost use Rattle.lists.specs.Below.{mapBelow};
 ghost use Rattle.fraction.specs.Divisors.{lcmAll};
 ghost use Rattle.tables.specs.Limits.{maxDegree};
-ghost use Rattle.tables.specs.Layout.{size};
 ghost use Rattle.tables.specs.Holds.{Scorable};
-ghost use Rattle.game.specs.Game.{neighbour};
-ghost use Rattle.formula.specs.Tables.{gameOf, largestDegree, divisorsOf, Over};
-ghost use Rattle.terms.specs.Unit.{degrees, unit};
+ghost use Rattle.game.specs.Game.{neighbourTerm};
+ghost use Rattle.formula.specs.Tables.{largestDegree, divisorsOf, maxDenominator};
+ghost use Rattle.terms.specs.Unit.{unit};
 ghost use Rattle.terms.specs.Added.{Added};
 use fraction::lcm;
-use network::Network;
 use network::rows::entry;
-use network::table::needs;
 use network::table::neighbours;
 use network::table::size;
-
-// Degrees that a bus may have: 0 lines, or any number up to the limit.
-pub struct Degrees;
-
-impl Degrees {
-    pub const ALL: usize = Network::LINES_AT_BUS + 1;
-}
 
 fn largest_degree(table: &[u16]) -> usize
     requires { ⌜ Scorable (now table) ⌝ }
@@ -65,31 +55,26 @@ pub fn denominator(table: &[u16]) -> u64
     multiple_up_to(1 + largest_degree(table))
 }
 
-// L over d (d + 1) for each degree d above 0, so that no bus needs a division.
-pub fn units(over: u64) -> [u64; Degrees::ALL]
-    ensures { λ r. ⌜ Tabled degrees (unit over) r ⌝ }
+// L over d (d + 1), which the terms of a bus of degree d are multiples of. A bus of degree 0 has no neighbour to give to.
+pub fn unit(over: u64, degree: usize) -> u64
+    requires { ⌜ degree ≤ maxDegree ⌝ }
+    ensures { λ r. ⌜ r ≡ unit over degree ⌝ }
 {
-    let mut units = [0u64; Degrees::ALL];
-    let mut d = 1;
-    while d < Degrees::ALL {
-        units[d] = over / ((d * (d + 1)) as u64);
-        d += 1;
-    }
-    units
-}
-
-// What a bus gives to each neighbour, over any L that makes it whole.
-pub fn term(table: &[u16], over: u64, units: &[u64; Degrees::ALL], bus: usize) -> u64
-    requires { ⌜ Scorable (now table) × (bus < size (now table)) ⌝ }
-    requires { ⌜ Over (now table) over × Tabled degrees (unit over) (now units) ⌝ }
-    ensures { λ r. ⌜ r ≡ neighbour (gameOf (now (table .entry))) over bus ⌝ }
-{
-    let d = neighbours(table, bus).len();
-    let k = entry(needs(table), bus);
-    if d < k {
+    if degree == 0 {
         return 0;
     }
-    ((d + 1 - k) as u64) * units[d]
+    over / ((degree * (degree + 1)) as u64)
+}
+
+// What a bus gives to each neighbour, by its need, its degree d and its unit: its term over L, which is d (d + 1) units.
+pub fn term(need: usize, degree: usize, unit: u64) -> u64
+    requires { ⌜ (1 ≤ need) × (degree ≤ maxDegree) × (unit * (degree * (degree + 1)) ≤ maxDenominator) ⌝ }
+    ensures { λ r. ⌜ r ≡ neighbourTerm need degree (unit * (degree * (degree + 1))) ⌝ }
+{
+    if degree < need {
+        return 0;
+    }
+    ((degree + 1 - need) as u64) * unit
 }
 
 // Stores zeros in the first n entries.

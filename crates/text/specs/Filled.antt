@@ -1,7 +1,7 @@
 -- Laws of templates. Assumes nothing.
 use mathlib.Core.List.{List, [], _∷_, _++_, append-assoc, append-nil}
 use mathlib.Core.Path.{_≡_, refl, sym, ap, _∙_}
-use Prim.Native.Nat.{ℕ, _+_, _*_, _^_, _≤_, _<_}
+use Prim.Native.Nat.{ℕ, _+_, _≤_, _<_}
 use native.Mathlib.Nat.{zero-add, add-zero}
 use native.Mathlib.Omega.{arith}
 use borrow.Author.Tests.{ne-eqb}
@@ -13,7 +13,6 @@ use Rattle.lists.specs.Tests.{split}
 use Rattle.lists.specs.Counts.{count-append}
 use Rattle.lists.specs.Places.{at-drop, take-next}
 use Rattle.text.specs.Text.{decimal, sign, filled}
-use Rattle.text.specs.Decimal.{decimal-few}
 
 -- a template in two parts: the second takes the numbers that the first leaves
 pub filled-append : (s t values : List ℕ) → filled (s ++ t) values ≡ filled s values ++ filled t (drop (count sign s) values)
@@ -23,18 +22,6 @@ filled-append (byte ∷ s) t values =
     split (eqb sign byte)
     (λ e. rw e (ap (λ l. decimal (at values 0) ++ l) (filled-append s t (drop 1 values) ∙ ap (λ l. filled s (drop 1 values) ++ filled t l) (drop-drop (count sign s) 1 values)) ∙ sym (append-assoc (decimal (at values 0)) _ _)))
     (λ e. rw (e, zero-add) (ap (λ l. byte ∷ l) (filled-append s t values)))
-
--- a 64-bit number takes the place of its `#` with at most 20 digits
-pub filled-few : (t values : List ℕ) → ((k : ℕ) → at values k < 2 ^ 64) → length (filled t values) + count sign t ≤ length t + 20 * count sign t
-unfolding filled
-filled-few [] values w = omega arith
-filled-few (byte ∷ t) values w =
-    split (eqb sign byte)
-    (λ e.
-    let digits = decimal-few 19 (at values 0) (omega (arith, w 0)) in
-    let rest = filled-few t (drop 1 values) (λ k. rw at-drop (w (1 + k))) in
-    rw e (omega (arith, length-append (decimal (at values 0)) (filled t (drop 1 values)), digits, rest)))
-    (λ e. rw e (omega (arith, filled-few t values w)))
 
 -- a part of a template has no more bytes and numbers than the whole
 module _ (t : List ℕ) (k : ℕ) where

@@ -1,22 +1,9 @@
 // Text in ASCII, written into a lent slice: numbers in decimal, and templates in which each `#` stands for a number.
 ghost use mathlib.Core.Path.{_≡_};
-ghost use Prim.Native.Nat.{_+_, _^_, _≤_, _<_};
+ghost use Prim.Native.Nat.{_+_, _≤_};
 ghost use lib.ListN.{length};
 ghost use Rattle.lists.specs.Lists.{count, put};
 ghost use Rattle.text.specs.Text.{decimal, sign, filled};
-
-// How many digits a number has.
-fn width(value: u64) -> usize
-    ensures { λ r. ⌜ r ≡ length (decimal value) ⌝ }
-{
-    let mut rest = value;
-    let mut digits = 1;
-    while 10 <= rest {
-        rest /= 10;
-        digits += 1;
-    }
-    digits
-}
 
 // Writes a number, and gives the place behind it.
 fn decimal(value: u64, out: &mut [u8], at: usize) -> usize
@@ -31,26 +18,6 @@ fn decimal(value: u64, out: &mut [u8], at: usize) -> usize
     let last = decimal(value / 10, out, at);
     out[last] = b'0' + (value % 10) as u8;
     last + 1
-}
-
-// How many bytes a template has with its numbers.
-pub fn measure(template: &[u8], values: &[u64]) -> usize
-    requires { ⌜ (count sign (now template) ≤ length (now values)) × (length (now template) < 2 ^ 32) ⌝ }
-    ensures { λ r. ⌜ r ≡ length (filled (now (template .entry)) (now (values .entry))) ⌝ }
-{
-    let mut bytes = 0;
-    let mut next = 0;
-    let mut k = 0;
-    while k < template.len() {
-        if template[k] == b'#' {
-            bytes += width(values[next]);
-            next += 1;
-        } else {
-            bytes += 1;
-        }
-        k += 1;
-    }
-    bytes
 }
 
 // Writes a template with its numbers, and gives the place behind it.

@@ -1,86 +1,28 @@
 -- No network's sheet has more bytes than `longestSheet`. Assumes nothing.
 use mathlib.Core.Bool.{true}
-use mathlib.Core.List.{List, [], _∷_}
+use mathlib.Core.List.{List}
 use mathlib.Core.Path.{_≡_, refl, sym}
-use Prim.Native.Nat.{ℕ, zero, suc, _+_, _*_, _/_, _≤_, _<_}
-use native.Mathlib.Nat.{le-trans, mul-le-mul, div-le-self}
+use Prim.Native.Nat.{ℕ, _+_, _≤_}
+use native.Mathlib.Nat.{le-trans}
 use native.Mathlib.Omega.{arith}
-use lib.ListN.{length, length-append}
-use Rattle.lists.specs.Lists.{at}
+use lib.ListN.{length}
 use Rattle.lists.specs.Below.{joinBelow}
-use Rattle.lists.specs.Loops.{sumBelow-next}
-use Rattle.lists.specs.Range.{sumBelow-le, sumBelow-rises, sumBelow-const, length-joinBelow}
+use Rattle.lists.specs.Range.{sumBelow-le, sumBelow-const, length-joinBelow}
 use Rattle.refusals.specs.Outcomes.{gives}
 use Rattle.refusals.specs.Due.{accept, not-below}
 use Rattle.tables.specs.Calls.{on-held}
-use Rattle.text.specs.Text.{decimal, filled}
-use Rattle.text.specs.Decimal.{decimal-few}
-use Rattle.tables.specs.Limits.{maxBuses}
-use Rattle.tables.specs.Holds.{Holds}
-use Rattle.tables.specs.Lines.{lines-few}
-use Rattle.fraction.specs.Divisors.{gcdOf}
-use Rattle.formula.specs.Network.{Network, denominator}
-use Rattle.formula.specs.Formula.{numerator}
-use Rattle.formula.specs.Tables.{maxDenominator}
-use Rattle.formula.specs.Fair.{whole}
-use Rattle.formula.specs.Played.{degree-few, own-over}
-use Rattle.two_way.specs.TwoWay.{networkOf}
-use Rattle.two_way.specs.Sound.{total-weight, sound}
-use Rattle.sheet.specs.Sheet.{headingForm, busForm, sheetLine}
+use Rattle.formula.specs.Network.{Network}
+use Rattle.sheet.specs.Sheet.{sheetLine}
+use Rattle.sheet.specs.Work.{longestLine, Short}
+use Rattle.sheet.specs.Fits.{line-fits}
 use Rattle.whole_sheet.specs.Whole.{wholeSheet, sheetOutcome}
-use Rattle.whole_sheet.specs.Work.{longestLine, longestSheet, Short}
+use Rattle.whole_sheet.specs.Work.{longestSheet}
 use Rattle.whole_sheet.specs.Calls.{sheet-due}
 
--- the bytes of a line: those of its template, and the digits of its numbers
-heading-length : (n m L : ℕ) → length (filled headingForm (n ∷ m ∷ L ∷ [])) ≡ 20 + length (decimal n) + length (decimal m) + length (decimal L)
-unfolding filled at
-heading-length n m L = simp length-append (omega arith)
-
-bus-length : (v k d x p q : ℕ) → length (filled busForm (v ∷ k ∷ d ∷ x ∷ p ∷ q ∷ []))
-    ≡ 6 + length (decimal v) + length (decimal k) + length (decimal d) + length (decimal x) + length (decimal p) + length (decimal q)
-unfolding filled at
-bus-length v k d x p q = simp length-append (omega arith)
-
 module _ {N : Network} (w : Short N) where
-  -- a share is no larger than all of them, which are L times the total weight
-  numerator-most : (v : ℕ) → v < N .buses → numerator N v ≤ maxDenominator * maxBuses
-  numerator-most v b =
-      let next : v + 1 ≤ N .buses = omega arith in
-      le-trans (omega (arith, sumBelow-rises (numerator N) (N .buses) next, sumBelow-next v (numerator N), whole (w .sound))) (mul-le-mul (w .over) (w .totalWeight))
-
-  bus-fits : (v : ℕ) → v < N .buses → length (sheetLine N (suc v)) ≤ longestLine
-  bus-fits v b =
-      let x = numerator N v in
-      let L = denominator N in
-      let g = gcdOf x L in
-      let most = numerator-most v b in
-      let few = w .over in
-      omega (
-        arith,
-        bus-length v (N .needColumn v) (N .degreeColumn v) x (x / g) (L / g),
-        decimal-few 2 v (omega (arith, w .buses)),
-        decimal-few 1 (N .needColumn v) (omega (arith, w .needColumn v b)),
-        decimal-few 1 (N .degreeColumn v) (omega (arith, w .degreeColumn v b)),
-        decimal-few 12 x (omega (arith, most)),
-        decimal-few 12 (x / g) (omega (arith, div-le-self x g, most)),
-        decimal-few 9 (L / g) (omega (arith, div-le-self L g, few)),
-      )
-
-  -- every line fits, the heading too
-  pub line-fits : (i : ℕ) → i ≤ N .buses → length (sheetLine N i) ≤ longestLine
-  line-fits zero b =
-      omega (
-        arith,
-        heading-length (N .buses) (N .lines) (denominator N),
-        decimal-few 2 (N .buses) (omega (arith, w .buses)),
-        decimal-few 4 (N .lines) (w .lines),
-        decimal-few 9 (denominator N) (omega (arith, w .over)),
-      )
-  line-fits (suc v) b = bus-fits v (omega arith)
-
   lines-fit : (m : ℕ) → m ≤ N .buses + 1 → length (joinBelow m (sheetLine N)) ≤ longestSheet
   lines-fit m h =
-      omega (arith, length-joinBelow m (sheetLine N), sumBelow-le (λ i. length (sheetLine N i)) (λ i. longestLine) m (λ i b. line-fits i (omega arith)), sumBelow-const longestLine m, w .buses)
+      omega (arith, length-joinBelow m (sheetLine N), sumBelow-le (λ i. length (sheetLine N i)) (λ i. longestLine) m (λ i b. line-fits w i (omega arith)), sumBelow-const longestLine m, w .buses)
 
   -- EVERY SHEET FITS
   pub sheet-fits : length (wholeSheet N) ≤ longestSheet
@@ -89,15 +31,3 @@ module _ {N : Network} (w : Short N) where
   -- so a call that is lent so many bytes is not refused for want of them
   pub never-short : (x : List ℕ) → N .held ≡ true → longestSheet ≤ length x → sheetOutcome N (length x) ≡ gives (length (wholeSheet N))
   never-short x g h = sym (sheet-due N x (on-held g (not-below refl refl (le-trans sheet-fits h) (accept refl refl))) .0)
-
--- the network of a table is such a one
-pub held-short : {t : List ℕ} → Holds t → Short (networkOf t)
-held-short {t} w = record {
-  sound = sound (w .shape) (w .mirrored);
-  buses = w .shape .complete .most;
-  lines = omega (arith, lines-few t w);
-  needColumn = w .limited;
-  degreeColumn = degree-few (w .shape);
-  over = own-over (w .shape) refl .few;
-  totalWeight = omega (arith, total-weight t, w .shape .complete .most);
-}

@@ -1,31 +1,20 @@
--- Lines and numerators, as code writes and stores them. Assumes nothing.
-use mathlib.Core.List.{List}
-use mathlib.Core.Path.{_≡_, ap, _∙_}
-use Prim.Native.Nat.{ℕ, _+_, _≤_}
+-- Numerators and lines, as code stores and writes them. Assumes nothing.
+use mathlib.Core.List.{List, _++_}
+use mathlib.Core.Path.{_≡_, sym, ap, _∙_}
+use Prim.Native.Nat.{ℕ, suc, _+_, _≤_, zero-le}
+use native.Mathlib.Numerals.{add-one}
 use native.Mathlib.Omega.{arith}
-use lib.ListN.{length}
+use lib.ListN.{length, length-append}
 use Rattle.lists.specs.Lists.{at, put}
-use Rattle.lists.specs.Below.{mapBelow}
+use Rattle.lists.specs.Below.{joinBelow, mapBelow}
 use Rattle.lists.specs.Places.{at-append}
-use Rattle.lists.specs.Range.{length-mapBelow, mapBelow-at}
-use Rattle.lists.specs.Writes.{put-front, length-put}
+use Rattle.lists.specs.Range.{length-mapBelow, mapBelow-at, joinBelow-first}
+use Rattle.lists.specs.Writes.{put-front, length-put, stored-list}
 use Rattle.formula.specs.Network.{Network, denominator}
 use Rattle.formula.specs.Formula.{numerator}
 use Rattle.sheet.specs.Sheet.{sheetLine}
-use Rattle.whole_sheet.specs.Work.{longestLine, Short, Scored}
-use Rattle.whole_sheet.specs.Fits.{line-fits}
-
--- a text that is line i of the sheet has room behind place a, was written into x there, and r is the place behind it
-module _ {N : Network} (w : Short N) {i : ℕ} (b : i ≤ N .buses) {text : List ℕ} (e : text ≡ sheetLine N i) where
-  few : length text ≤ longestLine
-  few = omega (arith, ap length e, line-fits w i b)
-
-  pub line-room : (a : ℕ) {n : ℕ} → a + longestLine ≤ n → a + length text ≤ n
-  line-room a h = omega (arith, few)
-
-  pub line-written : (x : List ℕ) (a : ℕ) {y : List ℕ} {r : ℕ} → r ≡ a + length text → y ≡ put x a text
-      → ((r ≡ a + length (sheetLine N i)) × (r ≤ a + longestLine)) × (y ≡ put x a (sheetLine N i))
-  line-written x a p q = ((p ∙ ap (λ l. a + length l) e, omega (arith, p, few)), q ∙ ap (put x a) e)
+use Rattle.whole_sheet.specs.Whole.{wholeSheet}
+use Rattle.whole_sheet.specs.Work.{Scored}
 
 -- the numerators of a network were stored at the front of x
 pub scored : (N : Network) (x : List ℕ) {L : ℕ} {numerators : List ℕ} → N .buses ≤ length x → L ≡ denominator N → numerators ≡ put x 0 (mapBelow (N .buses) (numerator N))
@@ -40,3 +29,17 @@ scored N x {numerators = numerators} l e p =
           ∙ at-append (mapBelow (N .buses) (numerator N)) _ i (omega (arith, first))
           ∙ mapBelow-at (numerator N) (N .buses) b;
     }
+
+-- the lines of the first n buses
+abbrev pub busLines : Network → ℕ → List ℕ
+busLines N n = joinBelow n (λ v. sheetLine N (suc v))
+
+-- the heading was written at the front of x, which left u, and those of n buses behind it, from place a on; e is the place behind them
+pub all-written : (N : Network) (x : List ℕ) {u y : List ℕ} {a e n : ℕ} → a ≡ 0 + length (sheetLine N 0) → u ≡ put x 0 (sheetLine N 0)
+    → n ≡ N .buses → e ≡ a + length (busLines N n) → y ≡ put u a (busLines N n) → (e ≡ length (wholeSheet N)) × (y ≡ put x 0 (wholeSheet N))
+all-written N x {n = n} ea eu en ee ey =
+    let all : sheetLine N 0 ++ busLines N n ≡ wholeSheet N =
+    sym (joinBelow-first n (sheetLine N)) ∙ ap (λ k. joinBelow k (sheetLine N)) (sym (add-one n) ∙ ap (λ n. n + 1) en) in (
+      omega (arith, ea, ee, ap length all, length-append (sheetLine N 0) (busLines N n)),
+      ey ∙ stored-list x 0 (sheetLine N 0) eu ea (busLines N n) zero-le ∙ ap (put x 0) all,
+    )

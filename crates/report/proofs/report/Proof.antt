@@ -19,6 +19,13 @@ use Rattle.report.proofs.report.Tie as tie
 room : length (replicate {A = ℕ} maxEntries 0) ≡ maxEntries
 room = length-replicate {A = ℕ} maxEntries 0
 
+returns-2 : tie.Need-returns-2
+returns-2 c =
+    let q = c .before .before .before in
+    let f = q .before .before .before .before .before .before .args .file .now in
+    let p = print-refusal f (replicate maxEntries 0) room (sym (q .before .before .before .read .ensures .0) ∙ ap readingSays (q .cause .given .1)) in
+    ((c .write-refusal .ensures .0 .0 ∙ ap length p, omega (arith, c .write-refusal .ensures .0 .1, c .write-refusal .kept .1 .0)), c .write-refusal .ensures .1 ∙ ap (put _ 0) p)
+
 -- Read accepted the file
 accepted : (c : tie.After-enum-told) → readOutcome (c .before .before .before .before .before .before .args .file .now) (length (replicate {A = ℕ} maxEntries 0)) ≡ gives (c .enum-told .given .0 .0)
 accepted c = sym (c .before .before .before .read .ensures .0) ∙ ap readingSays (c .enum-told .given .1)
@@ -34,13 +41,6 @@ returns c =
     let f = e .before .before .before .before .before .before .args .file .now in
     let p = ap (λ t. wholeSheet (networkOf t)) (e .before .before .before .read .ensures .1 .0) ∙ print-sheet f (replicate maxEntries 0) room (accepted e) in
     ((c .write-sheet .ensures .0 .0 ∙ ap length p, omega (arith, c .write-sheet .ensures .0 .1, c .write-sheet .kept .1 .0)), c .write-sheet .ensures .1 ∙ ap (put _ 0) p)
-
-returns-2 : tie.Need-returns-2
-returns-2 c =
-    let q = c .before .before .before in
-    let f = q .before .before .before .before .before .before .args .file .now in
-    let p = print-refusal f (replicate maxEntries 0) room (sym (q .before .before .before .read .ensures .0) ∙ ap readingSays (q .cause .given .1)) in
-    ((c .write-refusal .ensures .0 .0 ∙ ap length p, omega (arith, c .write-refusal .ensures .0 .1, c .write-refusal .kept .1 .0)), c .write-refusal .ensures .1 ∙ ap (put _ 0) p)
 
 pub report-spec : {M : Type 1} → statement M
 report-spec =

@@ -8,7 +8,7 @@ use lib.ListN.{length}
 use Rattle.lists.specs.Lists.{put}
 use Rattle.text.specs.Text.{filled}
 use Rattle.report.specs.Report.{refusedForm, refusedLine}
-use Rattle.whole_sheet.specs.Work.{longestLine}
+use Rattle.sheet.specs.Work.{longestLine}
 use Rattle.report.specs.Printing.{refused-fits}
 use Rattle.report.proofs.write_refusal.Statement.{statement}
 use Rattle.report.proofs.write_refusal.Tie as tie

@@ -10,10 +10,10 @@ use Rattle.scorer.proofs.numerator.Statement.{statement}
 use Rattle.scorer.proofs.numerator.Tie as tie
 
 abbrev Inv-loop : tie.InvT-loop
-Inv-loop table over units bus row sum₀ k₀ sum k = (k ≤ length row) × (sum ≡ summed table over bus k)
+Inv-loop table over bus row sum₀ k₀ sum k = (k ≤ length row) × (sum ≡ summed table over bus k)
 
 abbrev μ-loop : tie.MeasureT-loop
-μ-loop table over units bus row sum₀ k₀ sum k = length row - k
+μ-loop table over bus row sum₀ k₀ sum k = length row - k
 
 abbrev start : tie.After-entry Inv-loop μ-loop → tie.Start Inv-loop μ-loop
 start c = c .before .before .before .before .before .before
@@ -21,35 +21,35 @@ start c = c .before .before .before .before .before .before
 loop-holds : tie.Need-loop-holds Inv-loop μ-loop
 loop-holds c =
     let s = c .before .before .before in
-    (search needs, sum-start (s .pre .0 .0) (s .pre .0 .2) (s .pre .0 .1) (c .before .neighbours .ensures) (c .term .ensures))
+    (search needs, sum-start (s .pre .0) (s .pre .2) (s .pre .1) (c .before .neighbours .ensures) (c .given .ensures))
 
 loop-again : tie.Need-loop-again Inv-loop μ-loop
 loop-again c =
     let p = c .before in
     let s = start p in (
       search needs,
-      sum-next (s .pre .0 .0) (s .pre .0 .2) (s .pre .0 .1) (p .before .before .before .before .neighbours .ensures) (p .before .loop-test .taken) (p .entry .ensures .0) (p .before .before .loop .inv .1) (c .term2 .ensures),
+      sum-next (s .pre .0) (s .pre .2) (s .pre .1) (p .before .before .before .before .neighbours .ensures) (p .before .loop-test .taken) (p .entry .ensures .0) (p .before .before .loop .inv .1) (c .given2 .ensures),
     )
 
 returns : tie.Need-returns Inv-loop μ-loop
 returns c =
     let s = c .before .before .before .before .before in
-    sum-end (s .pre .0 .0) (s .pre .0 .2) (s .pre .0 .1) (c .before .before .before .neighbours .ensures) (c .before .loop .inv .1) (c .loop-test .left)
+    sum-end (s .pre .0) (s .pre .2) (s .pre .1) (c .before .before .before .neighbours .ensures) (c .before .loop .inv .1) (c .loop-test .left)
 
-term-requires-2 : tie.Need-term-requires-2 Inv-loop μ-loop
-term-requires-2 c κs =
+given-requires-2 : tie.Need-given-requires-2 Inv-loop μ-loop
+given-requires-2 c κs =
     let s = start c in
-    ((s .pre .0 .0, neighbour-in (s .pre .0 .0) (s .pre .0 .2) (s .pre .0 .1) (c .before .before .before .before .neighbours .ensures) (c .before .loop-test .taken) (c .entry .ensures .0)), (s .pre .0 .2, s .pre .1))
+    (s .pre .0, neighbour-in (s .pre .0) (s .pre .2) (s .pre .1) (c .before .before .before .before .neighbours .ensures) (c .before .loop-test .taken) (c .entry .ensures .0), s .pre .2)
 
 mul-sum : tie.Need-mul-sum Inv-loop μ-loop
 mul-sum c =
     let s = c .before .before .before in
-    omega (arith, rest-fits (s .pre .0 .0) (s .pre .0 .2) (s .pre .0 .1) (c .before .neighbours .ensures) (c .term .ensures))
+    omega (arith, rest-fits (s .pre .0) (s .pre .2) (s .pre .1) (c .before .neighbours .ensures) (c .given .ensures))
 
 sub-sum : tie.Need-sub-sum Inv-loop μ-loop
 sub-sum c =
     let s = c .before .before .before in
-    rest-fits (s .pre .0 .0) (s .pre .0 .2) (s .pre .0 .1) (c .before .neighbours .ensures) (c .term .ensures)
+    rest-fits (s .pre .0) (s .pre .2) (s .pre .1) (c .before .neighbours .ensures) (c .given .ensures)
 
 add-sum : tie.Need-add-sum Inv-loop μ-loop
 add-sum c =
@@ -57,7 +57,7 @@ add-sum c =
     let s = start p in
     omega (
       arith,
-      sum-fits (s .pre .0 .0) (s .pre .0 .2) (s .pre .0 .1) (p .before .before .before .before .neighbours .ensures) (p .before .loop-test .taken) (p .entry .ensures .0) (p .before .before .loop .inv .1) (c .term2 .ensures),
+      sum-fits (s .pre .0) (s .pre .2) (s .pre .1) (p .before .before .before .before .neighbours .ensures) (p .before .loop-test .taken) (p .entry .ensures .0) (p .before .before .loop .inv .1) (c .given2 .ensures),
     )
 
 pub numerator-spec : {M : Type 1} → statement M
@@ -72,7 +72,7 @@ numerator-spec =
     sub-sum
     loop-holds
     (λ c κs. search needs)
-    term-requires-2
+    given-requires-2
     add-sum
     (λ c. search needs)
     (λ c. search needs)

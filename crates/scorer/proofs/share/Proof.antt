@@ -10,8 +10,7 @@ use Rattle.tables.specs.Facts.{holds-facts}
 use Rattle.tables.specs.Calls.{no-network, on-held, no-bus, on-bus}
 use Rattle.two_way.specs.TwoWay.{networkOf}
 use Rattle.two_way.specs.Sound.{held-sound}
-use Rattle.formula.specs.Played.{own-over}
-use Rattle.shares.specs.Promised.{own-numerator, share-promised}
+use Rattle.shares.specs.Promised.{share-promised}
 use Rattle.scorer.proofs.share.Statement.{statement}
 use Rattle.scorer.proofs.share.Tie as tie
 
@@ -32,33 +31,15 @@ returns-2 c =
     let a = c .before .before .before .before .before .args in
     share-promised (networkOf (a .table .now)) (held-sound (a .table .now)) (a .bus) (on-held (held (c .before .before)) (no-bus (c .before .size .ensures .0) (omega (arith, c .if2 .taken))))
 
+share-of-requires : tie.Need-share-of-requires
+share-of-requires c κs = (holds-facts _ (held (c .before .before)), omega (arith, c .before .size .ensures .0, c .if2 .left))
+
 returns-3 : tie.Need-returns-3
 returns-3 c =
-    let p = c .before .before .before in
-    let e = p .before in
+    let e = c .before in
     let a = e .before .before .before .before .before .args in
     share-promised (networkOf (a .table .now)) (held-sound (a .table .now)) (a .bus)
-    (on-held (held (e .before .before)) (on-bus (e .before .size .ensures .0) (e .if2 .left) (accept (ap₂ (λ x L. (x, L)) (own-numerator _ _ (c .numerator .ensures) (p .denominator .ensures)) (p .denominator .ensures)) refl)))
-
-denominator-requires : tie.Need-denominator-requires
-denominator-requires c κs = holds-facts _ (held (c .before .before)) .shape
-
-numerator-requires : tie.Need-numerator-requires
-numerator-requires c κs =
-    let p = c .before .before in
-    let e = p .before in
-    let w = holds-facts _ (held (e .before .before)) .shape in
-    ((w, omega (arith, e .before .size .ensures .0, e .if2 .left), own-over w (p .denominator .ensures)), c .before .units .ensures)
+    (on-held (held (e .before .before)) (on-bus (e .before .size .ensures .0) (e .if2 .left) (accept (ap₂ (λ x L. (x, L)) (c .share-of .ensures .0) (c .share-of .ensures .1)) refl)))
 
 pub share-spec : {M : Type 1} → statement M
-share-spec =
-    tie.close
-    (tie.spec
-    (λ c κs. search needs)
-    returns
-    size-requires
-    returns-2
-    denominator-requires
-    (λ c κs. search needs)
-    numerator-requires
-    returns-3)
+share-spec = tie.close (tie.spec (λ c κs. search needs) returns size-requires returns-2 share-of-requires returns-3)

@@ -38,12 +38,6 @@ returns t c =
           ∙ ap (put (a .out .now) (a .at)) (sym (decimal-small (a .value) (omega arith))),
     )
 
-decimal-requires : (t : ℕ) → lts.Need-decimal-requires (below t, reads.Post) (given t) reads.Post
-decimal-requires t c κs =
-    let s = c .before .before .before in
-    let long = length-large (s .args .value) (omega arith) in
-    (omega (arith, s .pre .0), omega (arith, s .pre .1, long))
-
 -- the digits before the last are written: they are one fewer
 module _ {t : ℕ} (c : lts.After-decimal (below t, reads.Post) (given t) reads.Post) where
   large : length (decimal (c .before .before .before .before .args .value)) ≡ length (decimal (c .before .before .before .before .args .value / 10)) + 1
@@ -68,6 +62,12 @@ returns-2 t c =
           (omega (arith, s .pre .1, large d, d .decimal .ensures .0))
           ∙ ap (put (a .out .now) (a .at)) (sym (decimal-large (a .value) (omega arith))),
     )
+
+decimal-requires : (t : ℕ) → lts.Need-decimal-requires (below t, reads.Post) (given t) reads.Post
+decimal-requires t c κs =
+    let s = c .before .before .before in
+    let long = length-large (s .args .value) (omega arith) in
+    (omega (arith, s .pre .0), omega (arith, s .pre .1, long))
 
 pub +decimal-spec : {M : Type 1} → statement M
 +decimal-spec =

@@ -10,10 +10,10 @@ use Rattle.tables.specs.Holds.{holds}
 use Rattle.tables.specs.Facts.{holds-facts}
 use Rattle.tables.specs.Calls.{on-held}
 use Rattle.two_way.specs.TwoWay.{networkOf}
-use Rattle.sheet.specs.Calls.{due-text}
+use Rattle.sheet.specs.Calls.{written-front, due-text}
 use Rattle.whole_sheet.specs.Whole.{wholeSheet}
 use Rattle.whole_sheet.specs.Work.{longestSheet}
-use Rattle.whole_sheet.specs.Calls.{written-front, sheet-due, none-held}
+use Rattle.whole_sheet.specs.Calls.{sheet-due, none-held}
 use Rattle.whole_sheet.proofs.whole.Statement.{statement}
 use Rattle.whole_sheet.proofs.whole.Tie as tie
 

@@ -1,62 +1,87 @@
--- `whole_sheet::write_lines` meets its contract. The loop's invariant: the lines passed are written. Assumes nothing.
+-- `whole_sheet::write_lines` meets its contract. The loop's invariant: the lines of the buses passed are written behind the heading. Assumes nothing.
 use borrow.Author.Needs.{needs}
 use native.Mathlib.Omega.{arith}
-use mathlib.Core.Path.{_≡_, refl, sym, ap, _∙_}
-use Prim.Native.Nat.{_+_, _-_, _*_, _≤_}
+use mathlib.Core.Path.{_≡_, sym, ap, _∙_}
+use Prim.Native.Nat.{suc, _+_, _-_, _*_, _≤_, _<_}
 use lib.ListN.{length, length-append}
-use Rattle.lists.specs.Lists.{put}
+use Rattle.lists.specs.Lists.{at, put}
 use Rattle.lists.specs.Below.{joinBelow}
 use Rattle.lists.specs.Loops.{joinBelow-next}
 use Rattle.lists.specs.Writes.{put-none, stored-length, stored-list}
 use Rattle.tables.specs.Limits.{maxBuses}
 use Rattle.tables.specs.Layout.{size}
-use Rattle.sheet.specs.Sheet.{sheetLine}
 use Rattle.two_way.specs.TwoWay.{networkOf}
-use Rattle.whole_sheet.specs.Work.{longestLine}
+use Rattle.sheet.specs.Sheet.{sheetLine}
+use Rattle.sheet.specs.Work.{longestLine}
+use Rattle.whole_sheet.specs.Lines.{busLines, all-written}
 use Rattle.whole_sheet.proofs.write_lines.Statement.{statement}
 use Rattle.whole_sheet.proofs.write_lines.Tie as tie
 
 abbrev Inv-loop : tie.InvT-loop
-Inv-loop table over numerators out₀ n end₀ i₀ out end i =
-    let text = joinBelow i (sheetLine (networkOf table)) in
-    (i ≤ n + 1) × (end ≡ 0 + length text) × (end ≤ longestLine * i) × (out ≡ put out₀ 0 text)
+Inv-loop table over numerators out₀ n end₀ bus₀ out end bus =
+    let text = busLines (networkOf table) bus in
+    (bus ≤ n) × (end ≡ end₀ + length text) × (end ≤ end₀ + longestLine * bus) × (out ≡ put out₀ end₀ text)
 
 abbrev μ-loop : tie.MeasureT-loop
-μ-loop table over numerators out₀ n end₀ i₀ out end i = n + 1 - i
+μ-loop table over numerators out₀ n end₀ bus₀ out end bus = n - bus
 
 size-requires : tie.Need-size-requires Inv-loop μ-loop
 size-requires c κs = let z = c .before .before .before .pre .0 .shape .complete in omega arith
 
+write-heading-requires : tie.Need-write-heading-requires Inv-loop μ-loop
+write-heading-requires c κs = let s = c .before .before .before .before .before in (s .pre .0, s .pre .1 .over, omega (arith, s .pre .2))
+
 loop-holds : tie.Need-loop-holds Inv-loop μ-loop
 unfolding joinBelow
-loop-holds c = (search needs, refl, omega arith, sym (put-none _ _))
+loop-holds c = (search needs, omega arith, omega arith, sym (put-none _ _))
 
--- the lines passed are written into a slice that stays as long as it was, and is long enough
+-- the heading and the lines of the buses passed are written into a slice that stays as long as it was, and is long enough
 module _ (v : tie.At-loop Inv-loop μ-loop) where
-  few : v .before .size .result ≤ maxBuses
-  few = let s = v .before .before .before .before .before in omega (arith, v .before .size .ensures .0, s .pre .0 .shape .complete .most)
+  abbrev headed : tie.After-write-heading Inv-loop μ-loop
+  headed = v .before .before .before
 
-  kept : length (v .loop .out) ≡ length (v .before .before .before .before .before .args .out .now)
+  abbrev start : tie.Start Inv-loop μ-loop
+  start = headed .before .before .before .before .before .before
+
+  few : headed .before .before .size .result ≤ maxBuses
+  few = omega (arith, headed .before .before .size .ensures .0, start .pre .0 .shape .complete .most)
+
+  headed-kept : length (headed .write-heading .last .1 .1 .0) ≡ length (start .args .out .now)
+  headed-kept =
+      let h = headed .write-heading .ensures in
+      stored-length (start .args .out .now) 0 (sheetLine (networkOf (start .args .table .now)) 0) (h .1) (h .0 .0) (omega (arith, h .0 .1, start .pre .2))
+
+  kept : length (v .loop .out) ≡ length (start .args .out .now)
   kept =
-      let s = v .before .before .before .before .before in
-      stored-length _ _ _ (v .loop .inv .3) (v .loop .inv .1) (omega (arith, v .loop .inv .2, v .loop .inv .0, few, s .pre .2))
+      stored-length _ _ _ (v .loop .inv .3) (v .loop .inv .1) (omega (arith, headed .write-heading .ensures .0 .1, v .loop .inv .2, v .loop .inv .0, few, start .pre .2, headed-kept))
+      ∙ headed-kept
 
-write-line-requires : tie.Need-write-line-requires Inv-loop μ-loop
-write-line-requires c κs =
+shared-slice-read-write-bus : tie.Need-shared-slice-read-write-bus Inv-loop μ-loop
+shared-slice-read-write-bus c =
     let v = c .before .before in
-    let s = v .before .before .before .before .before in
-    (s .pre .0, s .pre .1, omega (arith, v .before .size .ensures .0), omega (arith, kept v, v .loop .inv .2, few v, s .pre .2))
+    omega (arith, c .before .loop-test .taken, headed v .before .before .size .ensures .0, start v .pre .1 .long)
+
+write-bus-requires : tie.Need-write-bus-requires Inv-loop μ-loop
+unfolding at
+write-bus-requires c κs =
+    let v = c .before .before .before in
+    let s = start v in
+    let b : v .loop .bus < size (s .args .table .now) = omega (arith, c .before .before .loop-test .taken, headed v .before .before .size .ensures .0) in
+    let room = headed v .write-heading .ensures .0 .1 in (
+      (s .pre .0, b, omega (arith, kept v, room, v .loop .inv .2, few v, c .before .before .loop-test .taken, s .pre .2)),
+      (s .pre .1 .over, s .pre .1 .each (v .loop .bus) b),
+    )
 
 loop-again : tie.Need-loop-again Inv-loop μ-loop
 loop-again c =
     let w = c .before .before in
-    let v = w .before .before .before in
-    let s = v .before .before .before .before .before in
-    let e = joinBelow-next (v .loop .i) (sheetLine (networkOf (s .args .table .now))) in (
-      omega arith,
-      omega (arith, w .write-line .ensures .0 .0, v .loop .inv .1, ap length e, length-append (joinBelow (v .loop .i) (sheetLine (networkOf (s .args .table .now)))) (sheetLine (networkOf (s .args .table .now)) (v .loop .i))),
-      omega (arith, w .write-line .ensures .0 .1, v .loop .inv .2),
-      w .write-line .ensures .1 ∙ stored-list _ _ _ (v .loop .inv .3) (v .loop .inv .1) _ (omega arith) ∙ ap (put _ 0) (sym e),
+    let v = w .before .before .before .before in
+    let N = networkOf (start v .args .table .now) in
+    let e = joinBelow-next (v .loop .bus) (λ v. sheetLine N (suc v)) in (
+      search needs,
+      omega (arith, w .write-bus .ensures .0 .0, v .loop .inv .1, ap length e, length-append (busLines N (v .loop .bus)) (sheetLine N (suc (v .loop .bus)))),
+      omega (arith, w .write-bus .ensures .0 .1, v .loop .inv .2),
+      w .write-bus .ensures .1 ∙ stored-list _ _ _ (v .loop .inv .3) (v .loop .inv .1) _ (omega (arith, headed v .write-heading .ensures .0 .1, headed-kept v, start v .pre .2)) ∙ ap (put _ _) (sym e),
     )
 
 same-length : tie.Need-same-length Inv-loop μ-loop
@@ -65,10 +90,11 @@ same-length c = kept (c .before)
 returns : tie.Need-returns Inv-loop μ-loop
 returns c =
     let v = c .before in
-    let s = v .before .before .before .before .before in
-    let all : v .loop .i ≡ size (s .args .table .now) + 1 = omega (arith, v .before .size .ensures .0, v .loop .inv .0, c .loop-test .left) in
-    let e = ap (λ i. joinBelow i (sheetLine (networkOf (s .args .table .now)))) all in
-    ((omega (arith, v .loop .inv .1, ap length e), omega (arith, v .loop .inv .2, v .loop .inv .0, few v)), v .loop .inv .3 ∙ ap (put _ 0) e)
+    let s = start v in
+    let h = headed v .write-heading .ensures in
+    let all : v .loop .bus ≡ size (s .args .table .now) = omega (arith, headed v .before .before .size .ensures .0, v .loop .inv .0, c .loop-test .left) in
+    let w = all-written (networkOf (s .args .table .now)) (s .args .out .now) (h .0 .0) (h .1) all (v .loop .inv .1) (v .loop .inv .3) in
+    ((w .0, omega (arith, h .0 .1, v .loop .inv .2, v .loop .inv .0, few v)), w .1)
 
 pub write-lines-spec : {M : Type 1} → statement M
 write-lines-spec =
@@ -77,8 +103,11 @@ write-lines-spec =
     Inv-loop
     μ-loop
     size-requires
+    write-heading-requires
     loop-holds
-    write-line-requires
+    (λ c. search needs)
+    shared-slice-read-write-bus
+    write-bus-requires
     (λ c. search needs)
     (λ c. search needs)
     loop-again
