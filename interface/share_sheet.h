@@ -53,10 +53,10 @@ uint8_t share_sheet_read(const uint8_t *file, size_t file_len, uint16_t *table, 
 /* Gives the number of neighbours of a bus. Refused with 11, then with 13 if `bus` is n or above. */
 uint8_t share_sheet_degree(const uint16_t *table, size_t table_len, size_t bus, size_t *degree);
 
-/* Gives the part of `table` that lists the neighbours of a bus: `length` entries from
+/* Gives the part of `table` that lists the neighbours of a bus: `entries` of them from
    table[start] on, ascending. Refused as share_sheet_degree is. */
 uint8_t share_sheet_row(const uint16_t *table, size_t table_len, size_t bus, size_t *start,
-                        size_t *length);
+                        size_t *entries);
 
 /* Stores the numerators of all n buses, bus 0 first, and gives the denominator that they are all
    over. Later entries of `numerators` are left as they were. Refused with 11, then with 12 if

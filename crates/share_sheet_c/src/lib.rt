@@ -63,16 +63,16 @@ pub extern "C" fn share_sheet_row(
     table: &[u16],
     bus: usize,
     start: &mut usize,
-    length: &mut usize,
+    entries: &mut usize,
 ) -> u8
-    ensures answer { λ r. ⌜ Tells (rowPlaceOutcome (now (table .entry)) bus) (now (start .entry), now (length .entry)) r (now (start .exit), now (length .exit)) ⌝ }
-    ensures stands { λ r. ⌜ RowStands (now (table .entry)) bus (told r (now (start .exit), now (length .exit))) ⌝ }
+    ensures answer { λ r. ⌜ Tells (rowPlaceOutcome (now (table .entry)) bus) (now (start .entry), now (entries .entry)) r (now (start .exit), now (entries .exit)) ⌝ }
+    ensures stands { λ r. ⌜ RowStands (now (table .entry)) bus (told r (now (start .exit), now (entries .exit))) ⌝ }
 {
     match lookup::row_place(table, bus) {
         RowPlace::Refused(cause) => cause.number(),
-        RowPlace::At(first, entries) => {
+        RowPlace::At(first, count) => {
             *start = first;
-            *length = entries;
+            *entries = count;
             0
         }
     }

@@ -23,7 +23,7 @@ extern "C" {
         table_len: usize,
         bus: usize,
         start: *mut usize,
-        length: *mut usize,
+        entries: *mut usize,
     ) -> u8;
 
     pub fn share_sheet_shares(
@@ -133,16 +133,16 @@ mod tests {
             (number, degree)
         };
         let row = |table: &[u16], bus| {
-            let (mut start, mut length) = (A, B);
+            let (mut start, mut entries) = (A, B);
             // SAFETY: as in `read`.
             let number = unsafe {
-                share_sheet_row(table.as_ptr(), table.len(), bus, &mut start, &mut length)
+                share_sheet_row(table.as_ptr(), table.len(), bus, &mut start, &mut entries)
             };
-            (number, start, length)
+            (number, start, entries)
         };
-        for (bus, start, length) in [(0, 8, 1), (1, 9, 2), (2, 11, 1)] {
-            assert_eq!(degree(&TABLE, bus), (0, length));
-            assert_eq!(row(&TABLE, bus), (0, start, length));
+        for (bus, start, entries) in [(0, 8, 1), (1, 9, 2), (2, 11, 1)] {
+            assert_eq!(degree(&TABLE, bus), (0, entries));
+            assert_eq!(row(&TABLE, bus), (0, start, entries));
         }
         assert_eq!(degree(&TABLE, 3), (13, A));
         assert_eq!(degree(&NONE, 0), (11, A));
