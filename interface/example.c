@@ -6,6 +6,7 @@
        cc -I interface interface/example.c target/staticlib/libshare_sheet_c.a -o target/example
        target/example < examples/path.net */
 
+#include <inttypes.h>
 #include <stdio.h>
 #include <stdlib.h>
 
@@ -16,8 +17,9 @@ int main(void)
     size_t most = share_sheet_max_bytes() + 1; /* a byte more than any network file has */
     size_t entries = share_sheet_max_entries(), room = share_sheet_max_text();
     size_t length, buses, lines, bytes = 0;
-    uint8_t *file = malloc(most), *text = malloc(room), refused;
+    uint8_t *file = malloc(most), *text = malloc(room);
     uint16_t *table = malloc(entries * sizeof *table);
+    uint32_t refused;
 
     if (file == NULL || text == NULL || table == NULL)
         return EXIT_FAILURE;
@@ -32,7 +34,7 @@ int main(void)
     if (refused == 0)
         fwrite(text, 1, bytes, stdout);
     else
-        printf("refused %d\n", refused);
+        printf("refused %" PRIu32 "\n", refused);
     free(file);
     free(text);
     free(table);

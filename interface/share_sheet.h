@@ -10,8 +10,8 @@
    lent for writing overlaps nothing else that is lent to the same call. A length counts
    entries, not bytes.
 
-   A call returns 0 if it is accepted, and then it has written its answers through the pointers.
-   Otherwise it returns the number of the cause, and nothing at all was changed. Of several
+   A call returns a status: 0 if it is accepted, and then it has written its answers through the
+   pointers. Otherwise it is the number of the cause, and nothing at all was changed. Of several
    causes it gives the first in the order that stands with the function.
 
      1  the file ends inside a count or a section
@@ -47,45 +47,47 @@ extern "C" {
    buses and of lines, n and m. The table takes 2n + 2 + 2m entries; later ones are left as they
    were. Refused with 1 to 8 because of the file, then with 10 if `table` is shorter than that.
    The counts are judged in file order, and after them all records for 6, all for 7, all for 8. */
-uint8_t share_sheet_read(const uint8_t *file, size_t file_len, uint16_t *table, size_t table_len,
-                         size_t *buses, size_t *lines);
+uint32_t share_sheet_read(const uint8_t *file, size_t file_len, uint16_t *table, size_t table_len,
+                          size_t *buses, size_t *lines);
 
 /* Gives the number of neighbours of a bus. Refused with 11, then with 13 if `bus` is n or above. */
-uint8_t share_sheet_degree(const uint16_t *table, size_t table_len, size_t bus, size_t *degree);
+uint32_t share_sheet_degree(const uint16_t *table, size_t table_len, size_t bus, size_t *degree);
 
-/* Gives the part of `table` that lists the neighbours of a bus: `length` entries from
-   table[start] on, ascending. Refused as share_sheet_degree is. */
-uint8_t share_sheet_row(const uint16_t *table, size_t table_len, size_t bus, size_t *start,
-                        size_t *length);
+/* Gives the part of `table` that lists the neighbours of a bus: `entries` of them from
+   table[start] on, ascending. Refused as share_sheet_degree is. The scope's Row is that part
+   itself, and where it is refused the empty part. So take table + start with `entries` entries
+   where the status is 0, and otherwise none, since both places are then as they were. */
+uint32_t share_sheet_row(const uint16_t *table, size_t table_len, size_t bus, size_t *start,
+                         size_t *entries);
 
 /* Stores the numerators of all n buses, bus 0 first, and gives the denominator that they are all
    over. Later entries of `numerators` are left as they were. Refused with 11, then with 12 if
    fewer than n entries are lent. */
-uint8_t share_sheet_shares(const uint16_t *table, size_t table_len, uint64_t *numerators,
-                           size_t numerators_len, uint64_t *over);
+uint32_t share_sheet_shares(const uint16_t *table, size_t table_len, uint64_t *numerators,
+                            size_t numerators_len, uint64_t *over);
 
 /* Gives the numerator of one bus, and the denominator: what share_sheet_shares gives for it.
    Refused with 11, then with 13 if `bus` is n or above. */
-uint8_t share_sheet_share(const uint16_t *table, size_t table_len, size_t bus,
-                          uint64_t *numerator, uint64_t *over);
+uint32_t share_sheet_share(const uint16_t *table, size_t table_len, size_t bus,
+                           uint64_t *numerator, uint64_t *over);
 
 /* Gives a fraction in lowest terms; 0 over anything above 0 is 0/1. Refused with 9 if the
    denominator is 0. */
-uint8_t share_sheet_cancel(uint64_t numerator, uint64_t denominator, uint64_t *top,
-                           uint64_t *bottom);
+uint32_t share_sheet_cancel(uint64_t numerator, uint64_t denominator, uint64_t *top,
+                            uint64_t *bottom);
 
 /* Writes one line of the sheet at the front of `text`, with the newline that ends it and no NUL,
    and gives its bytes: the heading for line 0, the line of bus i - 1 for line i. Later bytes are
    left as they were. Refused with 11, then with 13 if `line` is above n, then with 14 if the
    line has more than text_len bytes. */
-uint8_t share_sheet_line(const uint16_t *table, size_t table_len, size_t line, uint8_t *text,
-                         size_t text_len, size_t *bytes);
+uint32_t share_sheet_line(const uint16_t *table, size_t table_len, size_t line, uint8_t *text,
+                          size_t text_len, size_t *bytes);
 
 /* Writes the whole sheet, lines 0 to n, as share_sheet_line writes each, and gives its bytes.
    The table is tested once. Refused with 11, then with 14 if the sheet has more than text_len
    bytes. */
-uint8_t share_sheet_whole(const uint16_t *table, size_t table_len, uint8_t *text,
-                          size_t text_len, size_t *bytes);
+uint32_t share_sheet_whole(const uint16_t *table, size_t table_len, uint8_t *text,
+                           size_t text_len, size_t *bytes);
 
 /* The most buses that a network may have: so many numerators are always enough. */
 size_t share_sheet_max_buses(void);

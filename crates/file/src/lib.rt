@@ -158,14 +158,14 @@ pub fn judge(file: &[u8]) -> Reading
     }
 }
 
-// Record k.
-pub fn ends_of(records: &[u8], k: usize) -> Ends
-    requires { ⌜ 4 * k + 3 < length (now records) ⌝ }
-    ensures { λ r. ⌜ (r .first ≡ firstEnd (now (records .entry)) k) × (r .second ≡ secondEnd (now (records .entry)) k) ⌝ }
+// Record k of a section of records.
+pub fn ends_of(section: &[u8], k: usize) -> Ends
+    requires { ⌜ 4 * k + 3 < length (now section) ⌝ }
+    ensures { λ r. ⌜ (r .first ≡ firstEnd (now (section .entry)) k) × (r .second ≡ secondEnd (now (section .entry)) k) ⌝ }
 {
     let from = 4 * k;
-    let first = word(records, from);
-    let second = word(records, from + 2);
+    let first = word(section, from);
+    let second = word(section, from + 2);
     Ends { first, second }
 }
 
@@ -183,13 +183,13 @@ fn two_buses(n: usize, a: usize, b: usize) -> bool
 }
 
 // Whether each of m records names two different buses below n.
-pub fn sound_ends(records: &[u8], n: usize, m: usize) -> bool
-    requires { ⌜ 4 * m ≤ length (now records) ⌝ }
-    ensures { λ b. ⌜ b ≡ soundEnds n m (now (records .entry)) ⌝ }
+pub fn sound_ends(section: &[u8], n: usize, m: usize) -> bool
+    requires { ⌜ 4 * m ≤ length (now section) ⌝ }
+    ensures { λ b. ⌜ b ≡ soundEnds n m (now (section .entry)) ⌝ }
 {
     let mut k = 0;
     while k < m {
-        let ends = ends_of(records, k);
+        let ends = ends_of(section, k);
         if !two_buses(n, ends.first, ends.second) {
             return false;
         }

@@ -52,15 +52,14 @@ pub fn gcd(x: u64, y: u64) -> u64
     let twos = least(u64::trailing_zeros(x) as u64, u64::trailing_zeros(y) as u64);
     let mut a = odd_part(x);
     let mut b = odd_part(y);
-    let odd = loop {
+    loop {
         if a == b {
-            break a;
+            break a << twos;
         }
         let rest = odd_part(gap(a, b));
         a = least(a, b);
         b = rest;
-    };
-    odd << twos
+    }
 }
 
 // The fraction with its numbers divided by what they share.

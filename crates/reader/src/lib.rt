@@ -62,17 +62,17 @@ fn store_table(
 }
 
 // Reads m records whose ends are sound, of buses with these needs.
-fn read_lines(needs: &[u8], records: &[u8], m: usize, table: &mut [u16]) -> Reading
-    requires { ⌜ (4 * m ≤ length (now records)) × SoundRecords (length (now needs)) m (now records) ⌝ }
-    ensures { λ r. ⌜ LinesDue (now (needs .entry)) m (now (records .entry)) (now (table .entry)) (readingSays r) (now (table .exit)) ⌝ }
+fn read_lines(needs: &[u8], section: &[u8], m: usize, table: &mut [u16]) -> Reading
+    requires { ⌜ (4 * m ≤ length (now section)) × SoundRecords (length (now needs)) m (now section) ⌝ }
+    ensures { λ r. ⌜ LinesDue (now (needs .entry)) m (now (section .entry)) (now (table .entry)) (readingSays r) (now (table .exit)) ⌝ }
 {
     let n = needs.len();
-    if crowded(records, n, m) {
+    if crowded(section, n, m) {
         return Reading::Refused(Refusal::CrowdedBus);
     }
     let mut slots = blank_slots();
     let mut counts = blank_counts();
-    match fill(records, n, m, &mut slots, &mut counts) {
+    match fill(section, n, m, &mut slots, &mut counts) {
         Inserted::Full => Reading::Refused(Refusal::CrowdedBus),
         Inserted::Present => Reading::Refused(Refusal::RepeatedLine),
         Inserted::Added => store_table(needs, m, &slots, &counts, table),
@@ -80,14 +80,14 @@ fn read_lines(needs: &[u8], records: &[u8], m: usize, table: &mut [u16]) -> Read
 }
 
 // Reads m records, of buses with these needs.
-fn read_records(needs: &[u8], records: &[u8], m: usize, table: &mut [u16]) -> Reading
-    requires { ⌜ (length (now needs) ≤ maxBuses) × (m ≤ maxLines) × (4 * m ≤ length (now records)) ⌝ }
-    ensures { λ r. ⌜ RecordsDue (now (needs .entry)) m (now (records .entry)) (now (table .entry)) (readingSays r) (now (table .exit)) ⌝ }
+fn read_records(needs: &[u8], section: &[u8], m: usize, table: &mut [u16]) -> Reading
+    requires { ⌜ (length (now needs) ≤ maxBuses) × (m ≤ maxLines) × (4 * m ≤ length (now section)) ⌝ }
+    ensures { λ r. ⌜ RecordsDue (now (needs .entry)) m (now (section .entry)) (now (table .entry)) (readingSays r) (now (table .exit)) ⌝ }
 {
-    if !sound_ends(records, needs.len(), m) {
+    if !sound_ends(section, needs.len(), m) {
         return Reading::Refused(Refusal::LineEnds);
     }
-    read_lines(needs, records, m, table)
+    read_lines(needs, section, m, table)
 }
 
 // Reads a file into a lent slice.

@@ -17,13 +17,13 @@ use rows::blank_counts;
 use rows::bump;
 
 // Counts, for each bus, the records that name it.
-fn count_names(records: &[u8], m: usize, counts: &mut [u16; Network::BUSES])
-    requires { ⌜ (4 * m ≤ length (now records)) × SoundRecords maxBuses m (now records) × Blank (now counts) ⌝ }
-    ensures { λ _. ⌜ Named m (now (records .entry)) (now (counts .exit)) ⌝ }
+fn count_names(section: &[u8], m: usize, counts: &mut [u16; Network::BUSES])
+    requires { ⌜ (4 * m ≤ length (now section)) × SoundRecords maxBuses m (now section) × Blank (now counts) ⌝ }
+    ensures { λ _. ⌜ Named m (now (section .entry)) (now (counts .exit)) ⌝ }
 {
     let mut k = 0;
     while k < m {
-        let ends = ends_of(records, k);
+        let ends = ends_of(section, k);
         bump(counts, ends.first);
         bump(counts, ends.second);
         k += 1;
@@ -46,27 +46,27 @@ fn too_many(counts: &[u16; Network::BUSES], n: usize) -> bool
 }
 
 // Whether some bus stands in more records than it may have lines.
-pub fn crowded(records: &[u8], n: usize, m: usize) -> bool
-    requires { ⌜ (4 * m ≤ length (now records)) × SoundRecords n m (now records) ⌝ }
-    ensures { λ b. ⌜ b ≡ crowded n m (now (records .entry)) ⌝ }
+pub fn crowded(section: &[u8], n: usize, m: usize) -> bool
+    requires { ⌜ (4 * m ≤ length (now section)) × SoundRecords n m (now section) ⌝ }
+    ensures { λ b. ⌜ b ≡ crowded n m (now (section .entry)) ⌝ }
 {
     let mut counts = blank_counts();
-    count_names(records, m, &mut counts);
+    count_names(section, m, &mut counts);
     too_many(&counts, n)
 }
 
 // Joins record k of a network of n buses to those before it: each of its ends is added to the row of the other.
 fn join(
-    records: &[u8],
+    section: &[u8],
     n: usize,
     k: usize,
     slots: &mut [u16],
     counts: &mut [u16; Network::BUSES],
 ) -> Inserted
-    requires { ⌜ (4 * k + 3 < length (now records)) × SoundRecords n (k + 1) (now records) × Filled n k (now records) (now slots) (now counts) ⌝ }
-    ensures { λ r. ⌜ Joined r n k (now (records .entry)) (now (slots .exit)) (now (counts .exit)) ⌝ }
+    requires { ⌜ (4 * k + 3 < length (now section)) × SoundRecords n (k + 1) (now section) × Filled n k (now section) (now slots) (now counts) ⌝ }
+    ensures { λ r. ⌜ Joined r n k (now (section .entry)) (now (slots .exit)) (now (counts .exit)) ⌝ }
 {
-    let ends = ends_of(records, k);
+    let ends = ends_of(section, k);
     let a = ends.first;
     let b = ends.second;
     let inserted = add(slots, counts, a, b as u16);
@@ -78,19 +78,19 @@ fn join(
 
 // Joins all m records, up to the first whose pair is present or which finds a row full.
 pub fn fill(
-    records: &[u8],
+    section: &[u8],
     n: usize,
     m: usize,
     slots: &mut [u16],
     counts: &mut [u16; Network::BUSES],
 ) -> Inserted
-    requires { ⌜ (4 * m ≤ length (now records)) × SoundRecords n m (now records) ⌝ }
+    requires { ⌜ (4 * m ≤ length (now section)) × SoundRecords n m (now section) ⌝ }
     requires { ⌜ (length (now slots) ≡ maxSlots) × Blank (now counts) ⌝ }
-    ensures { λ r. ⌜ FilledBy r n m (now (records .entry)) (now (slots .exit)) (now (counts .exit)) ⌝ }
+    ensures { λ r. ⌜ FilledBy r n m (now (section .entry)) (now (slots .exit)) (now (counts .exit)) ⌝ }
 {
     let mut k = 0;
     while k < m {
-        let inserted = join(records, n, k, slots, counts);
+        let inserted = join(section, n, k, slots, counts);
         if !inserted.added() {
             return inserted;
         }

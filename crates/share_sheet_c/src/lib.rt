@@ -1,7 +1,8 @@
 // The library for C, and for languages that call C: each call of 01, the whole sheet and the sizes that are enough, on numbers, slices and lent places.
-// A call gives 0, or 01's number where it is refused. Values are handed back through lent places, which a refused call leaves as they were.
+// A call gives a 32-bit status: 0, or 01's number where it is refused. Values are handed back through lent places, which a refused call leaves as they were.
 ghost use mathlib.Core.Path.{_≡_};
 ghost use lib.ListN.{length};
+ghost use Rattle.refusals.specs.Numbers.{numberOf};
 ghost use Rattle.tables.specs.Limits.{maxBuses, maxEntries, maxBytes};
 ghost use Rattle.tables.specs.Answers.{degreeOutcome, rowPlaceOutcome, RowStands};
 ghost use Rattle.reading.specs.Read.{readOutcome, tableAfter};
@@ -17,10 +18,18 @@ use lookup::BusDegree;
 use lookup::RowPlace;
 use network::Network;
 use reader::Reading;
+use refusals::Refusal;
 use scorer::AllShares;
 use scorer::OneShare;
 use sheet::Written;
 use whole_sheet::Longest;
+
+// The status of a refused call.
+fn status(cause: Refusal) -> u32
+    ensures { λ r. ⌜ r ≡ numberOf cause ⌝ }
+{
+    cause.number() as u32
+}
 
 // Reads a file into a lent table, and gives n and m.
 #[no_mangle]
@@ -29,12 +38,12 @@ pub extern "C" fn share_sheet_read(
     table: &mut [u16],
     buses: &mut usize,
     lines: &mut usize,
-) -> u8
+) -> u32
     ensures answer { λ r. ⌜ Tells (readOutcome (now (file .entry)) (length (now (table .entry)))) (counted (now (buses .entry)) (now (lines .entry))) r (counted (now (buses .exit)) (now (lines .exit))) ⌝ }
     ensures stored { λ _. ⌜ now (table .exit) ≡ tableAfter (now (file .entry)) (now (table .entry)) ⌝ }
 {
     match reader::read(file, table) {
-        Reading::Refused(cause) => cause.number(),
+        Reading::Refused(cause) => status(cause),
         Reading::Accepted(counts) => {
             *buses = counts.buses;
             *lines = counts.lines;
@@ -45,11 +54,11 @@ pub extern "C" fn share_sheet_read(
 
 // Gives the degree of a bus.
 #[no_mangle]
-pub extern "C" fn share_sheet_degree(table: &[u16], bus: usize, degree: &mut usize) -> u8
+pub extern "C" fn share_sheet_degree(table: &[u16], bus: usize, degree: &mut usize) -> u32
     ensures answer { λ r. ⌜ Tells (degreeOutcome (now (table .entry)) bus) (now (degree .entry)) r (now (degree .exit)) ⌝ }
 {
     match lookup::degree(table, bus) {
-        BusDegree::Refused(cause) => cause.number(),
+        BusDegree::Refused(cause) => status(cause),
         BusDegree::Is(neighbours) => {
             *degree = neighbours;
             0
@@ -58,21 +67,22 @@ pub extern "C" fn share_sheet_degree(table: &[u16], bus: usize, degree: &mut usi
 }
 
 // Gives where the row of a bus begins in the table, and how many entries it has.
+// 01's Row is that part of the table itself, and where it is refused the empty part. So a caller in C takes the `entries` entries from `start` on where the status is 0, and otherwise none.
 #[no_mangle]
 pub extern "C" fn share_sheet_row(
     table: &[u16],
     bus: usize,
     start: &mut usize,
-    length: &mut usize,
-) -> u8
-    ensures answer { λ r. ⌜ Tells (rowPlaceOutcome (now (table .entry)) bus) (now (start .entry), now (length .entry)) r (now (start .exit), now (length .exit)) ⌝ }
-    ensures stands { λ r. ⌜ RowStands (now (table .entry)) bus (told r (now (start .exit), now (length .exit))) ⌝ }
+    entries: &mut usize,
+) -> u32
+    ensures answer { λ r. ⌜ Tells (rowPlaceOutcome (now (table .entry)) bus) (now (start .entry), now (entries .entry)) r (now (start .exit), now (entries .exit)) ⌝ }
+    ensures stands { λ r. ⌜ RowStands (now (table .entry)) bus (told r (now (start .exit), now (entries .exit))) ⌝ }
 {
     match lookup::row_place(table, bus) {
-        RowPlace::Refused(cause) => cause.number(),
-        RowPlace::At(first, entries) => {
+        RowPlace::Refused(cause) => status(cause),
+        RowPlace::At(first, count) => {
             *start = first;
-            *length = entries;
+            *entries = count;
             0
         }
     }
@@ -80,13 +90,13 @@ pub extern "C" fn share_sheet_row(
 
 // Stores the numerators of all buses, and gives L.
 #[no_mangle]
-pub extern "C" fn share_sheet_shares(table: &[u16], numerators: &mut [u64], over: &mut u64) -> u8
+pub extern "C" fn share_sheet_shares(table: &[u16], numerators: &mut [u64], over: &mut u64) -> u32
     ensures answer { λ r. ⌜ Tells (sharesOutcome (networkOf (now (table .entry))) (length (now (numerators .entry)))) (now (over .entry)) r (now (over .exit)) ⌝ }
     ensures stored { λ _. ⌜ now (numerators .exit) ≡ numeratorsAfter (networkOf (now (table .entry))) (now (numerators .entry)) ⌝ }
     ensures fair { λ r. ⌜ AllFair (networkOf (now (table .entry))) (length (now (numerators .entry))) (told r (now (over .exit))) (now (numerators .exit)) ⌝ }
 {
     match scorer::shares(table, numerators) {
-        AllShares::Refused(cause) => cause.number(),
+        AllShares::Refused(cause) => status(cause),
         AllShares::Over(denominator) => {
             *over = denominator;
             0
@@ -101,12 +111,12 @@ pub extern "C" fn share_sheet_share(
     bus: usize,
     numerator: &mut u64,
     over: &mut u64,
-) -> u8
+) -> u32
     ensures answer { λ r. ⌜ Tells (shareOutcome (networkOf (now (table .entry))) bus) (now (numerator .entry), now (over .entry)) r (now (numerator .exit), now (over .exit)) ⌝ }
     ensures fair { λ r. ⌜ OneFair (networkOf (now (table .entry))) bus (told r (now (numerator .exit), now (over .exit))) ⌝ }
 {
     match scorer::share(table, bus) {
-        OneShare::Refused(cause) => cause.number(),
+        OneShare::Refused(cause) => status(cause),
         OneShare::Is(part, whole) => {
             *numerator = part;
             *over = whole;
@@ -122,12 +132,12 @@ pub extern "C" fn share_sheet_cancel(
     denominator: u64,
     top: &mut u64,
     bottom: &mut u64,
-) -> u8
+) -> u32
     ensures answer { λ r. ⌜ Tells (cancelOutcome numerator denominator) (now (top .entry), now (bottom .entry)) r (now (top .exit), now (bottom .exit)) ⌝ }
     ensures rule { λ r. ⌜ CancelRule numerator denominator (told r (now (top .exit), now (bottom .exit))) ⌝ }
 {
     match fraction::cancel(numerator, denominator) {
-        Cancelled::Refused(cause) => cause.number(),
+        Cancelled::Refused(cause) => status(cause),
         Cancelled::Pair(lowest, under) => {
             *top = lowest;
             *bottom = under;
@@ -143,12 +153,12 @@ pub extern "C" fn share_sheet_line(
     line: usize,
     text: &mut [u8],
     bytes: &mut usize,
-) -> u8
+) -> u32
     ensures answer { λ r. ⌜ Tells (lineOutcome (networkOf (now (table .entry))) line (length (now (text .entry)))) (now (bytes .entry)) r (now (bytes .exit)) ⌝ }
     ensures written { λ _. ⌜ now (text .exit) ≡ lineAfter (networkOf (now (table .entry))) line (now (text .entry)) ⌝ }
 {
     match sheet::line(table, line, text) {
-        Written::Refused(cause) => cause.number(),
+        Written::Refused(cause) => status(cause),
         Written::Bytes(count) => {
             *bytes = count;
             0
@@ -158,12 +168,12 @@ pub extern "C" fn share_sheet_line(
 
 // Writes the whole sheet at the front of a lent text, and gives its byte count.
 #[no_mangle]
-pub extern "C" fn share_sheet_whole(table: &[u16], text: &mut [u8], bytes: &mut usize) -> u8
+pub extern "C" fn share_sheet_whole(table: &[u16], text: &mut [u8], bytes: &mut usize) -> u32
     ensures answer { λ r. ⌜ Tells (sheetOutcome (networkOf (now (table .entry))) (length (now (text .entry)))) (now (bytes .entry)) r (now (bytes .exit)) ⌝ }
     ensures written { λ _. ⌜ now (text .exit) ≡ sheetAfter (networkOf (now (table .entry))) (now (text .entry)) ⌝ }
 {
     match whole_sheet::whole(table, text) {
-        Written::Refused(cause) => cause.number(),
+        Written::Refused(cause) => status(cause),
         Written::Bytes(all) => {
             *bytes = all;
             0

@@ -198,12 +198,12 @@ pub fn degree(table: &[u16], bus: usize) -> Result<usize, Refusal> {
 /// assert_eq!(row(&path, 3).unwrap_or_default(), &[]);
 /// ```
 pub fn row(table: &[u16], bus: usize) -> Result<&[u16], Refusal> {
-    let (mut start, mut length) = (0, 0);
-    // SAFETY: as in `read`; `start` and `length` are two places.
+    let (mut start, mut entries) = (0, 0);
+    // SAFETY: as in `read`; `start` and `entries` are two places.
     let number =
-        unsafe { raw::share_sheet_row(table.as_ptr(), table.len(), bus, &mut start, &mut length) };
+        unsafe { raw::share_sheet_row(table.as_ptr(), table.len(), bus, &mut start, &mut entries) };
     refusal::accepted(number)?;
-    Ok(&table[start..start + length])
+    Ok(&table[start..start + entries])
 }
 
 /// Stores the numerators of all buses, bus 0 first, and gives the denominator that they are over.

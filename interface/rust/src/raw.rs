@@ -9,22 +9,22 @@ extern "C" {
         table_len: usize,
         buses: *mut usize,
         lines: *mut usize,
-    ) -> u8;
+    ) -> u32;
 
     pub fn share_sheet_degree(
         table: *const u16,
         table_len: usize,
         bus: usize,
         degree: *mut usize,
-    ) -> u8;
+    ) -> u32;
 
     pub fn share_sheet_row(
         table: *const u16,
         table_len: usize,
         bus: usize,
         start: *mut usize,
-        length: *mut usize,
-    ) -> u8;
+        entries: *mut usize,
+    ) -> u32;
 
     pub fn share_sheet_shares(
         table: *const u16,
@@ -32,7 +32,7 @@ extern "C" {
         numerators: *mut u64,
         numerators_len: usize,
         over: *mut u64,
-    ) -> u8;
+    ) -> u32;
 
     pub fn share_sheet_share(
         table: *const u16,
@@ -40,14 +40,14 @@ extern "C" {
         bus: usize,
         numerator: *mut u64,
         over: *mut u64,
-    ) -> u8;
+    ) -> u32;
 
     pub fn share_sheet_cancel(
         numerator: u64,
         denominator: u64,
         top: *mut u64,
         bottom: *mut u64,
-    ) -> u8;
+    ) -> u32;
 
     pub fn share_sheet_line(
         table: *const u16,
@@ -56,7 +56,7 @@ extern "C" {
         text: *mut u8,
         text_len: usize,
         bytes: *mut usize,
-    ) -> u8;
+    ) -> u32;
 
     pub fn share_sheet_whole(
         table: *const u16,
@@ -64,7 +64,7 @@ extern "C" {
         text: *mut u8,
         text_len: usize,
         bytes: *mut usize,
-    ) -> u8;
+    ) -> u32;
 
     pub fn share_sheet_max_buses() -> usize;
     pub fn share_sheet_max_entries() -> usize;
@@ -90,7 +90,7 @@ mod tests {
     const C: u64 = 0xA5A5_5A5A_A5A5_5A5A;
     const D: u64 = 0x5A5A_A5A5_5A5A_A5A5;
 
-    fn read(file: &[u8], table: &mut [u16]) -> (u8, usize, usize) {
+    fn read(file: &[u8], table: &mut [u16]) -> (u32, usize, usize) {
         let (mut buses, mut lines) = (A, B);
         // SAFETY: pointers and lengths are those of live slices and of single numbers, and nothing
         // that is lent for writing is lent twice.
@@ -133,16 +133,16 @@ mod tests {
             (number, degree)
         };
         let row = |table: &[u16], bus| {
-            let (mut start, mut length) = (A, B);
+            let (mut start, mut entries) = (A, B);
             // SAFETY: as in `read`.
             let number = unsafe {
-                share_sheet_row(table.as_ptr(), table.len(), bus, &mut start, &mut length)
+                share_sheet_row(table.as_ptr(), table.len(), bus, &mut start, &mut entries)
             };
-            (number, start, length)
+            (number, start, entries)
         };
-        for (bus, start, length) in [(0, 8, 1), (1, 9, 2), (2, 11, 1)] {
-            assert_eq!(degree(&TABLE, bus), (0, length));
-            assert_eq!(row(&TABLE, bus), (0, start, length));
+        for (bus, start, entries) in [(0, 8, 1), (1, 9, 2), (2, 11, 1)] {
+            assert_eq!(degree(&TABLE, bus), (0, entries));
+            assert_eq!(row(&TABLE, bus), (0, start, entries));
         }
         assert_eq!(degree(&TABLE, 3), (13, A));
         assert_eq!(degree(&NONE, 0), (11, A));

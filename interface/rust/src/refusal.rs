@@ -93,9 +93,9 @@ impl fmt::Display for Refusal {
 
 impl Error for Refusal {}
 
-/// What a number that the library returned says: 0 that the call was accepted.
-pub(crate) fn accepted(number: u8) -> Result<(), Refusal> {
-    Err(match number {
+/// What a status says: 0 that the call was accepted.
+pub(crate) fn accepted(status: u32) -> Result<(), Refusal> {
+    Err(match status {
         0 => return Ok(()),
         1 => Refusal::FileTooShort,
         2 => Refusal::BusCount,
@@ -111,7 +111,7 @@ pub(crate) fn accepted(number: u8) -> Result<(), Refusal> {
         12 => Refusal::NumeratorsTooShort,
         13 => Refusal::NoSuchBus,
         14 => Refusal::TextTooShort,
-        _ => panic!("share_sheet_c returned {number}, which stands for no refusal"),
+        _ => panic!("share_sheet_c returned {status}, which stands for no refusal"),
     })
 }
 
@@ -126,7 +126,7 @@ mod tests {
         let mut told = HashSet::new();
         for number in 1..=14 {
             let refused = accepted(number).unwrap_err();
-            assert_eq!(refused.number(), number);
+            assert_eq!(u32::from(refused.number()), number);
             assert!(told.insert(refused.words()), "{refused}");
             assert_eq!(refused.to_string(), format!("refused {number}: {}", refused.words()));
         }

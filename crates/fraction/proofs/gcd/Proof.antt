@@ -1,6 +1,7 @@
 -- `fraction::gcd` meets its contract. Each turn keeps the greatest common divisor and makes the sum smaller. Assumes nothing.
 use mathlib.Core.Path.{refl}
 use Prim.Native.Nat.{_+_}
+use native.Mathlib.Nat.{lt-of-le-of-lt}
 use native.Mathlib.Omega.{arith}
 use lib.Count.{trailing-le}
 use borrow.Author.Needs.{needs}
@@ -24,16 +25,19 @@ returns-2 : tie.Need-returns-2 Inv-loop μ-loop
 returns-2 c = rw (c .if2 .taken) (gcd-zero _)
 
 cast-least : tie.Need-cast-least Inv-loop μ-loop
-cast-least c = omega (arith, trailing-le 64 (c .before .before .args .x))
+cast-least c = record { fits = lt-of-le-of-lt (trailing-le 64 _) (omega arith) }
 
 cast-least-2 : tie.Need-cast-least-2 Inv-loop μ-loop
-cast-least-2 c = omega (arith, trailing-le 64 (c .before .before .args .y))
+cast-least-2 c = record { fits = lt-of-le-of-lt (trailing-le 64 _) (omega arith) }
 
 least-requires : tie.Need-least-requires Inv-loop μ-loop
 least-requires c κs = tt
 
 loop-holds : tie.Need-loop-holds Inv-loop μ-loop
 loop-holds c = record { left = c .before .odd-part .ensures .odd; right = c .odd-part2 .ensures .odd; kept = refl }
+
+shl-result : tie.Need-shl-result Inv-loop μ-loop
+shl-result c = omega (arith, twos-below (c .before .before .before .before .before .before .before .args .x) (omega arith) (search needs))
 
 gap-requires : tie.Need-gap-requires Inv-loop μ-loop
 gap-requires c κs = tt
@@ -49,9 +53,6 @@ returns-3 c =
     agreed (omega arith) (search needs) (c .before .before .before .odd-part .ensures) (c .before .before .odd-part2 .ensures) (c .before .loop .inv)
     (omega arith) (c .before .before .before .before .least .ensures)
 
-shl-result : tie.Need-shl-result Inv-loop μ-loop
-shl-result c = omega (arith, twos-below (c .before .before .before .before .before .before .before .args .x) (omega arith) (search needs))
-
 pub gcd-spec : {M : Type 1} → statement M
 gcd-spec =
     tie.close
@@ -66,10 +67,10 @@ gcd-spec =
     (λ c κs. omega arith)
     (λ c κs. omega arith)
     loop-holds
+    shl-result
     gap-requires
     (λ c κs. omega arith)
     least-requires-2
     (λ c. omega arith)
     loop-again
-    shl-result
     returns-3)

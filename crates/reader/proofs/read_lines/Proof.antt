@@ -20,13 +20,13 @@ returns c = stop (sym (c .before .crowded .ensures) ∙ c .if1 .taken)
 abbrev start : tie.After-fill → tie.Start
 start p = p .before .before .before .before .before .before .before .before .before .before
 
-free : (p : tie.After-fill) → let a = start p .args in crowded (length (a .needs .now)) (a .m) (a .records .now) ≡ false
+free : (p : tie.After-fill) → let a = start p .args in crowded (length (a .needs .now)) (a .m) (a .section .now) ≡ false
 free p = let e = p .before .before .before .before .before in sym (e .before .crowded .ensures) ∙ e .if1 .left
 
 -- what that left, where it answered q
 told : (p : tie.After-fill) (q : Inserted) → p .fill .result ≡ q
-    → let a = start p .args in FilledBy q (length (a .needs .now)) (a .m) (a .records .now) (p .fill .last .1 .1 .1 .0) (p .fill .last .1 .1 .1 .1 .0)
-told p q e = let a = start p .args in subst (λ q. FilledBy q (length (a .needs .now)) (a .m) (a .records .now) (p .fill .last .1 .1 .1 .0) (p .fill .last .1 .1 .1 .1 .0)) e (p .fill .ensures)
+    → let a = start p .args in FilledBy q (length (a .needs .now)) (a .m) (a .section .now) (p .fill .last .1 .1 .1 .0) (p .fill .last .1 .1 .1 .1 .0)
+told p q e = let a = start p .args in subst (λ q. FilledBy q (length (a .needs .now)) (a .m) (a .section .now) (p .fill .last .1 .1 .1 .0) (p .fill .last .1 .1 .1 .1 .0)) e (p .fill .ensures)
 
 returns-2 : tie.Need-returns-2
 returns-2 c =

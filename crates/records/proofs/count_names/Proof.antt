@@ -34,7 +34,7 @@ bump-requires-2 c κs =
     let p = c .before .before .before in second-counts (start p .pre .1) (p .before .loop-test .taken) (p .ends-of .ensures) (p .before .before .loop .inv .1) (c .before .bump .ensures)
 
 returns : tie.Need-returns Inv-loop μ-loop
-returns c = by-end (λ k. Named k (c .before .before .before .args .records .now) (c .before .loop .counts)) (c .before .loop .inv .1) (c .before .loop .inv .0) (c .loop-test .left)
+returns c = by-end (λ k. Named k (c .before .before .before .args .section .now) (c .before .loop .counts)) (c .before .loop .inv .1) (c .before .loop .inv .0) (c .loop-test .left)
 
 pub count-names-spec : {M : Type 1} → statement M
 count-names-spec =

@@ -50,8 +50,8 @@ returns-2 : tie.Need-returns-2 Inv-loop μ-loop
 returns-2 c =
     let a = c .before .before .before .before .args in
     let v = c .before .loop in (
-      by-end (λ k. repeated k (a .records .now) ≡ false) (v .inv .2) (v .inv .0) (c .loop-test .left),
-      by-end (λ k. Filled (a .n) k (a .records .now) (v .slots) (v .counts)) (v .inv .1) (v .inv .0) (c .loop-test .left),
+      by-end (λ k. repeated k (a .section .now) ≡ false) (v .inv .2) (v .inv .0) (c .loop-test .left),
+      by-end (λ k. Filled (a .n) k (a .section .now) (v .slots) (v .counts)) (v .inv .1) (v .inv .0) (c .loop-test .left),
     )
 
 pub fill-spec : {M : Type 1} → statement M

@@ -11,7 +11,7 @@ returns c =
     let m = c .before .before in
     let a = m .before .before in
     let says = ap degreeSays (m .cause .given .1) in
-    refused says (c .number .ensures) (a .degree .ensures)
+    refused says (c .status .ensures) (a .degree .ensures)
 
 returns-2 : tie.Need-returns-2
 returns-2 c =

@@ -11,7 +11,7 @@ returns c =
     let m = c .before .before in
     let a = m .before .before .before .before in
     let says = ap writtenSays (m .cause .given .1) in
-    (refused says (c .number .ensures) (a .line .ensures .0), a .line .ensures .1)
+    (refused says (c .status .ensures) (a .line .ensures .0), a .line .ensures .1)
 
 returns-2 : tie.Need-returns-2
 returns-2 c =

@@ -12,7 +12,7 @@ returns c =
     let m = c .before .before in
     let a = m .before .before in
     let says = ap placeSays (m .cause .given .1) in
-    (refused says (c .number .ensures) (a .row-place .ensures .0), still (RowStands _ _) (m .cause .given .0 .0) _ says (c .number .ensures) (a .row-place .ensures .1))
+    (refused says (c .status .ensures) (a .row-place .ensures .0), still (RowStands _ _) (m .cause .given .0 .0) _ says (c .status .ensures) (a .row-place .ensures .1))
 
 returns-2 : tie.Need-returns-2
 returns-2 c =

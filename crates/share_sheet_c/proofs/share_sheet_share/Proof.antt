@@ -13,7 +13,7 @@ returns c =
     let m = c .before .before in
     let a = m .before .before in
     let says = ap shareSays (m .cause .given .1) in
-    (refused says (c .number .ensures) (a .share .ensures .0), still (OneFair (networkOf _) _) (m .cause .given .0 .0) _ says (c .number .ensures) (a .share .ensures .1))
+    (refused says (c .status .ensures) (a .share .ensures .0), still (OneFair (networkOf _) _) (m .cause .given .0 .0) _ says (c .status .ensures) (a .share .ensures .1))
 
 returns-2 : tie.Need-returns-2
 returns-2 c =

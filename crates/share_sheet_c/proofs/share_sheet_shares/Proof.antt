@@ -20,7 +20,7 @@ returns c =
     let m = c .before .before in
     let a = m .before .before .before .before in
     let says = ap sharesSays (m .cause .given .1) in
-    (refused says (c .number .ensures) (a .shares .ensures .0), (a .shares .ensures .1 .0, still (FairAs _ _ _) (m .cause .given .0 .0) _ says (c .number .ensures) (a .shares .ensures .1 .1)))
+    (refused says (c .status .ensures) (a .shares .ensures .0), (a .shares .ensures .1 .0, still (FairAs _ _ _) (m .cause .given .0 .0) _ says (c .status .ensures) (a .shares .ensures .1 .1)))
 
 returns-2 : tie.Need-returns-2
 returns-2 c =

@@ -1,0 +1,47 @@
+/* The status of each call, accepted and refused, as its four bytes read. Exit status 0: all are
+   right. */
+#include <stdio.h>
+
+#include "share_sheet.h"
+
+/* Path, and its table with a wrong last entry, which holds no network */
+static const uint8_t file[15] = {3, 0, 1, 1, 1, 2, 0, 0, 0, 1, 0, 1, 0, 2, 0};
+static const uint16_t none[12] = {3, 1, 1, 1, 0, 1, 3, 4, 1, 0, 2, 0};
+
+static int wrong = 0;
+
+static void compare(const char *call, size_t width, uint32_t status, uint32_t wanted)
+{
+    if (width != 4 || status != wanted) {
+        printf("%s gives %#lx in %d bytes\n", call, (unsigned long)status, (int)width);
+        wrong = 1;
+    }
+}
+
+#define EXPECT(call, wanted) compare(#call, sizeof(call), call, wanted)
+
+int main(void)
+{
+    uint16_t table[12];
+    uint64_t numerators[3], p, q;
+    uint8_t text[64];
+    size_t a, b;
+
+    EXPECT(share_sheet_read(file, 15, table, 12, &a, &b), 0);
+    EXPECT(share_sheet_read(file, 14, table, 12, &a, &b), 1);
+    EXPECT(share_sheet_degree(table, 12, 1, &a), 0);
+    EXPECT(share_sheet_degree(table, 12, 3, &a), 13);
+    EXPECT(share_sheet_row(table, 12, 1, &a, &b), 0);
+    EXPECT(share_sheet_row(none, 12, 1, &a, &b), 11);
+    EXPECT(share_sheet_shares(table, 12, numerators, 3, &p), 0);
+    EXPECT(share_sheet_shares(table, 12, numerators, 2, &p), 12);
+    EXPECT(share_sheet_share(table, 12, 1, &p, &q), 0);
+    EXPECT(share_sheet_share(table, 12, 3, &p, &q), 13);
+    EXPECT(share_sheet_cancel(8, 6, &p, &q), 0);
+    EXPECT(share_sheet_cancel(8, 0, &p, &q), 9);
+    EXPECT(share_sheet_line(table, 12, 1, text, 64, &a), 0);
+    EXPECT(share_sheet_line(table, 12, 1, text, 1, &a), 14);
+    EXPECT(share_sheet_whole(table, 12, text, 64, &a), 0);
+    EXPECT(share_sheet_whole(table, 12, text, 58, &a), 14);
+    return wrong;
+}
