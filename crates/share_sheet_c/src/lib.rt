@@ -5,7 +5,7 @@ ghost use lib.ListN.{length};
 ghost use Rattle.refusals.specs.Numbers.{numberOf};
 ghost use Rattle.tables.specs.Limits.{maxBuses, maxEntries, maxBytes};
 ghost use Rattle.tables.specs.Answers.{degreeOutcome, rowPlaceOutcome, RowStands};
-ghost use Rattle.reading.specs.Read.{readOutcome, tableAfter};
+ghost use Rattle.reading.specs.Read.{readOutcome, tableAfter, Recorded};
 ghost use Rattle.two_way.specs.TwoWay.{networkOf};
 ghost use Rattle.shares.specs.Answers.{sharesOutcome, numeratorsAfter, AllFair, shareOutcome, OneFair};
 ghost use Rattle.fraction.specs.Cancel.{cancelOutcome, CancelRule};
@@ -41,6 +41,7 @@ pub extern "C" fn share_sheet_read(
 ) -> u32
     ensures answer { λ r. ⌜ Tells (readOutcome (now (file .entry)) (length (now (table .entry)))) (counted (now (buses .entry)) (now (lines .entry))) r (counted (now (buses .exit)) (now (lines .exit))) ⌝ }
     ensures stored { λ _. ⌜ now (table .exit) ≡ tableAfter (now (file .entry)) (now (table .entry)) ⌝ }
+    ensures recorded { λ r. ⌜ Recorded (now (file .entry)) (now (table .entry)) (told r (counted (now (buses .exit)) (now (lines .exit)))) (now (table .exit)) ⌝ }
 {
     match reader::read(file, table) {
         Reading::Refused(cause) => status(cause),
