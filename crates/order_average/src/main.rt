@@ -1,6 +1,6 @@
 // Compares the shares of networks up to seven buses with an average over all orders of fitting that is written separately:
-// `average` goes through the orders and counts seen buses, and knows nothing of the scorer. So that the comparison is seen to
-// fail where it should, it is also made of shares by a formula that is wrong.
+// `small_networks::average` goes through the orders and counts seen buses, and knows nothing of the scorer. So that the
+// comparison is seen to fail where it should, it is also made of shares by a formula that is wrong.
 ghost use Prim.Native.Nat.{_≤_, _<_};
 ghost use Rattle.small_networks.specs.Bounds.{most};
 ghost use Rattle.order_average.specs.Bounds.{counted};
@@ -9,7 +9,7 @@ use scorer::AllShares;
 use scorer::OneShare;
 use small_networks::MOST;
 use small_networks::Small;
-use small_networks::average::Walk;
+use small_networks::average::Gains;
 use small_networks::average::all_orders;
 use small_networks::choice;
 use small_networks::choice::DRAWS;
@@ -43,7 +43,7 @@ const WRONG: usize = 8;
 
 const COUNTED: usize = 9;
 
-// No count comes near the numbers where a sum would wrap.
+// Adds to a count. None comes near the numbers where a sum would wrap.
 fn count(counts: &mut [u64; COUNTED], what: usize, more: u32)
     requires { ⌜ what < counted ⌝ }
 {
@@ -128,7 +128,7 @@ fn compare_bus(
 
 // Compares the shares of a network, of which all orders were gone through. Where Shares refuses it, so does Share, and each
 // of its buses counts as different.
-fn compare_shares(counts: &mut [u64; COUNTED], small: Small, walk: Walk)
+fn compare_shares(counts: &mut [u64; COUNTED], small: Small, gains: Gains)
     requires { ⌜ small .buses ≤ most ⌝ }
 {
     let table = table(small);
@@ -137,7 +137,7 @@ fn compare_shares(counts: &mut [u64; COUNTED], small: Small, walk: Walk)
         AllShares::Over(over) => over,
         AllShares::Refused(_) => 0,
     };
-    let sums = walk.sums;
+    let sums = gains.sums;
     for bus in 0..small.buses {
         compare_bus(
             counts,
@@ -147,7 +147,7 @@ fn compare_shares(counts: &mut [u64; COUNTED], small: Small, walk: Walk)
             numerators[bus],
             over,
             sums[bus],
-            walk.orders,
+            gains.orders,
         );
     }
 }
@@ -155,11 +155,11 @@ fn compare_shares(counts: &mut [u64; COUNTED], small: Small, walk: Walk)
 fn compare(counts: &mut [u64; COUNTED], small: Small)
     requires { ⌜ small .buses ≤ most ⌝ }
 {
-    let walk = all_orders(small);
+    let gains = all_orders(small);
     count(counts, NETWORKS, 1);
-    count(counts, ORDERS, walk.orders);
-    count(counts, UNEVEN, walk.uneven);
-    compare_shares(counts, small, walk);
+    count(counts, ORDERS, gains.orders);
+    count(counts, UNEVEN, gains.uneven);
+    compare_shares(counts, small, gains);
 }
 
 // The most buses of which all networks are compared.

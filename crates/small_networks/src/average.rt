@@ -52,7 +52,7 @@ fn next(fitted: u32, passed: u32) -> usize
     0
 }
 
-// Whether a number is that of an order: nothing is left of it.
+// Whether a number is that of an order: nothing is left of it, in whichever order it is divided.
 fn has_order(buses: u32, number: u32) -> bool {
     let mut rest = number;
     for left in 1..=buses {
@@ -87,17 +87,17 @@ fn fit(small: Small, number: u32, sums: &mut [u32; MOST]) -> u32
 
 // What all orders give: how many were gone through, in how many the gains do not add up to all buses, and the sum of each
 // bus's gains.
-pub struct Walk {
+pub struct Gains {
     pub orders: u32,
     pub uneven: u32,
     pub sums: [u32; MOST],
 }
 
-// More orders than seven buses have, so that the walk ends before.
+// More orders than seven buses have, so that their end is reached before.
 const LIMIT: u32 = 10_000;
 
 // Goes through all orders: up to the first number that is that of none.
-pub fn all_orders(small: Small) -> Walk
+pub fn all_orders(small: Small) -> Gains
     requires { ⌜ small .buses ≤ most ⌝ }
 {
     let buses = small.buses as u32;
@@ -113,7 +113,7 @@ pub fn all_orders(small: Small) -> Walk
         }
         orders += 1;
     }
-    Walk {
+    Gains {
         orders,
         uneven,
         sums,

@@ -6,10 +6,10 @@ use Rattle.order_average.proofs.compare_shares.Statement.{statement}
 use Rattle.order_average.proofs.compare_shares.Tie as tie
 
 abbrev Inv-loop : tie.InvT-loop
-Inv-loop counts₀ small walk table numerators over sums bus₀ bus-end counts bus = (bus ≤ bus-end) × (bus-end ≤ most)
+Inv-loop counts₀ small gains table numerators over sums bus₀ bus-end counts bus = (bus ≤ bus-end) × (bus-end ≤ most)
 
 abbrev μ-loop : tie.MeasureT-loop
-μ-loop counts₀ small walk table numerators over sums bus₀ bus-end counts bus = bus-end - bus
+μ-loop counts₀ small gains table numerators over sums bus₀ bus-end counts bus = bus-end - bus
 
 pub compare-shares-spec : {M : Type 1} → statement M
 compare-shares-spec =
