@@ -1,166 +1,215 @@
 // Compares the shares of networks up to seven buses with an average over all orders of fitting that is written separately:
-// `average` goes through the orders and counts seen buses, and knows nothing of the scorer.
-//
-// Orders of n buses are numbered from 0 to n! - 1. An order is read off its number by dividing by n, what is left by n - 1,
-// and so on to 1: each remainder says how many of the buses not yet fitted are passed over to find the next. Each row of such
-// remainders is that of exactly one number below n!, as digits are, and each order has exactly one such row; so every order
-// comes once.
-ghost use mathlib.Core.Path.{_≡_};
-ghost use Prim.Native.Nat.{_+_, _≤_, _<_};
-ghost use Rattle.order_average.specs.Bounds.{most, mostSets, mostNetworks, Counted};
-
-mod average;
-mod choice;
-mod small;
-mod table;
-
-use average::orders;
-use average::sum_of_gains;
-use choice::DRAWS;
+// `small_networks::average` goes through the orders and counts seen buses, and knows nothing of the scorer. So that the
+// comparison is seen to fail where it should, it is also made of shares by a formula that is wrong.
+ghost use Prim.Native.Nat.{_≤_, _<_};
+ghost use Rattle.small_networks.specs.Bounds.{most};
+ghost use Rattle.order_average.specs.Bounds.{counted};
 use libc::STDOUT_FILENO;
 use scorer::AllShares;
-use small::MOST;
-use small::Small;
+use scorer::OneShare;
+use small_networks::MOST;
+use small_networks::Small;
+use small_networks::average::Gains;
+use small_networks::average::all_orders;
+use small_networks::choice;
+use small_networks::choice::DRAWS;
+use small_networks::has;
+use small_networks::only;
+use small_networks::size;
+use small_networks::table::ENTRIES;
+use small_networks::table::table;
+use std::num::wrapping_add_u64;
 
-// What was compared: networks and their orders, networks with an isolated bus or a need above its degree, and buses whose
-// share is not the average.
-struct Tally {
-    networks: u64,
-    orders: u64,
-    isolated: u64,
-    above: u64,
-    differences: u64,
+// What is counted. Networks; orders gone through, and those whose gains do not add up to all buses; buses whose need is above
+// their degree, equal to it, 1 and below it, or between 1 and it; shares that are not the average, and shares by a wrong
+// formula that are not.
+const NETWORKS: usize = 0;
+
+const ORDERS: usize = 1;
+
+const UNEVEN: usize = 2;
+
+const ABOVE: usize = 3;
+
+const EQUAL: usize = 4;
+
+const ONE: usize = 5;
+
+const BETWEEN: usize = 6;
+
+const DIFFERENT: usize = 7;
+
+const WRONG: usize = 8;
+
+const COUNTED: usize = 9;
+
+// Adds to a count. None comes near the numbers where a sum would wrap.
+fn count(counts: &mut [u64; COUNTED], what: usize, more: u32)
+    requires { ⌜ what < counted ⌝ }
+{
+    counts[what] = wrapping_add_u64(counts[what], more as u64);
 }
 
-const NONE: Tally = Tally {
-    networks: 0,
-    orders: 0,
-    isolated: 0,
-    above: 0,
-    differences: 0,
-};
+// What a bus of this need and degree is counted as.
+fn kind(need: u32, degree: u32) -> usize
+    ensures { λ r. ⌜ r < counted ⌝ }
+{
+    if need > degree {
+        ABOVE
+    } else if need == degree {
+        EQUAL
+    } else if need == 1 {
+        ONE
+    } else {
+        BETWEEN
+    }
+}
 
 // More than any L of seven buses, which is at most 420, or any numerator, which is at most 7 times L.
 const LARGE: u64 = 10_000;
 
-// Whether a share is the average of the bus's gains over all orders, in whole numbers.
-fn is_average(small: Small, bus: usize, numerator: u64, over: u64) -> bool
-    requires { ⌜ (small .buses ≤ most) × (bus < most) ⌝ }
-{
+// Whether a numerator over L is the average of gains of this sum over so many orders, in whole numbers.
+fn is_average(numerator: u64, over: u64, sum: u32, orders: u32) -> bool {
     if numerator > LARGE {
         return false;
     }
     if over > LARGE {
         return false;
     }
-    numerator * orders(small.buses) == over * sum_of_gains(small, bus)
+    numerator * orders as u64 == over * sum as u64
 }
 
-// Buses whose share is not the average.
-fn unequal(small: Small, numerators: &[u64; MOST], over: u64) -> u64
-    requires { ⌜ small .buses ≤ most ⌝ }
-    ensures { λ r. ⌜ r ≤ most ⌝ }
+// Whether Share gives a bus the same as Shares did.
+fn is_share(table: &[u16; ENTRIES], bus: usize, numerator: u64, over: u64) -> bool {
+    match scorer::share(table, bus) {
+        OneShare::Is(part, whole) => part == numerator && whole == over,
+        OneShare::Refused(_) => false,
+    }
+}
+
+// A numerator by the first game's formula, 1/(d + 1) for the bus and each neighbour: wrong where needs are not 1.
+fn wrong_numerator(small: Small, bus: usize, over: u64) -> u64
+    requires { ⌜ (small .buses ≤ most) × (bus < most) ⌝ }
 {
-    let mut count = 0;
-    for bus in 0..small.buses {
-        if !is_average(small, bus, numerators[bus], over) {
-            count += 1;
+    let neighbours = small.neighbours;
+    let with_bus = neighbours[bus] | only(bus);
+    let mut sum = 0;
+    for other in 0..small.buses {
+        if has(with_bus, other) {
+            sum = wrapping_add_u64(sum, over / (size(neighbours[other]) as u64 + 1));
         }
     }
-    count
+    sum
 }
 
-// The same, where the shares of a refused network all differ.
-fn differences(small: Small) -> u64
+// Compares what a bus is given with the average of its gains.
+fn compare_bus(
+    counts: &mut [u64; COUNTED],
+    small: Small,
+    bus: usize,
+    table: &[u16; ENTRIES],
+    numerator: u64,
+    over: u64,
+    sum: u32,
+    orders: u32,
+)
+    requires { ⌜ (small .buses ≤ most) × (bus < most) ⌝ }
+{
+    let needs = small.needs;
+    let neighbours = small.neighbours;
+    count(counts, kind(needs[bus] as u32, size(neighbours[bus])), 1);
+    if !is_average(numerator, over, sum, orders) || !is_share(table, bus, numerator, over) {
+        count(counts, DIFFERENT, 1);
+    }
+    if !is_average(wrong_numerator(small, bus, over), over, sum, orders) {
+        count(counts, WRONG, 1);
+    }
+}
+
+// Compares the shares of a network, of which all orders were gone through. Where Shares refuses it, so does Share, and each
+// of its buses counts as different.
+fn compare_shares(counts: &mut [u64; COUNTED], small: Small, gains: Gains)
     requires { ⌜ small .buses ≤ most ⌝ }
-    ensures { λ r. ⌜ r ≤ most ⌝ }
 {
-    let table = table::table(small);
+    let table = table(small);
     let mut numerators = [0u64; MOST];
-    match scorer::shares(&table, &mut numerators) {
-        AllShares::Over(over) => unequal(small, &numerators, over),
-        AllShares::Refused(_) => small.buses as u64,
+    let over = match scorer::shares(&table, &mut numerators) {
+        AllShares::Over(over) => over,
+        AllShares::Refused(_) => 0,
+    };
+    let sums = gains.sums;
+    for bus in 0..small.buses {
+        compare_bus(
+            counts,
+            small,
+            bus,
+            &table,
+            numerators[bus],
+            over,
+            sums[bus],
+            gains.orders,
+        );
     }
 }
 
-fn one_if(holds: bool) -> u64
-    ensures { λ r. ⌜ r ≤ 1 ⌝ }
+fn compare(counts: &mut [u64; COUNTED], small: Small)
+    requires { ⌜ small .buses ≤ most ⌝ }
 {
-    if holds { 1 } else { 0 }
-}
-
-// Compares one network more.
-fn compare(tally: Tally, small: Small) -> Tally
-    requires { ⌜ Counted tally × (tally .networks < mostNetworks) × (small .buses ≤ most) ⌝ }
-    ensures { λ r. ⌜ Counted r × (r .networks ≡ tally .networks + 1) ⌝ }
-{
-    Tally {
-        networks: tally.networks + 1,
-        orders: tally.orders + orders(small.buses),
-        isolated: tally.isolated + one_if(small::has_isolated(small)),
-        above: tally.above + one_if(small::has_need_above_degree(small)),
-        differences: tally.differences + differences(small),
-    }
-}
-
-// Compares all networks of so many buses with need 1 everywhere.
-fn compare_numbered(tally: Tally, buses: usize) -> Tally
-    requires { ⌜ Counted tally × (tally .networks + mostSets ≤ mostNetworks) × (buses ≤ most) ⌝ }
-    ensures { λ r. ⌜ Counted r × (r .networks ≤ tally .networks + mostSets) ⌝ }
-{
-    let mut tally = tally;
-    for number in 0..choice::line_sets(buses) {
-        tally = compare(tally, choice::numbered(buses, number));
-    }
-    tally
+    let gains = all_orders(small);
+    count(counts, NETWORKS, 1);
+    count(counts, ORDERS, gains.orders);
+    count(counts, UNEVEN, gains.uneven);
+    compare_shares(counts, small, gains);
 }
 
 // The most buses of which all networks are compared.
 const NUMBERED: usize = 5;
 
-fn compare_all() -> Tally
-    ensures { λ r. ⌜ Counted r × (r .networks ≤ mostNetworks) ⌝ }
-{
-    let mut tally = NONE;
+// Compares all networks of so few buses with need 1 everywhere.
+fn compare_all(counts: &mut [u64; COUNTED]) {
     for buses in 1..=NUMBERED {
-        tally = compare_numbered(tally, buses);
+        for number in 0..choice::line_sets(buses) {
+            compare(counts, choice::numbered(buses, number));
+        }
     }
-    tally
 }
 
-// Networks that are drawn: as many of each number of buses, every other one of them sparse.
+// Networks that are drawn: as many of each number of buses.
 const CHOSEN: usize = 120 * MOST;
 
-fn compare_chosen() -> Tally
-    ensures { λ r. ⌜ Counted r × (r .networks ≤ mostNetworks) ⌝ }
-{
-    let mut tally = NONE;
+fn compare_chosen(counts: &mut [u64; COUNTED]) {
     let mut seed = choice::SEED;
     for k in 0..CHOSEN {
         let draws = choice::draws(seed);
-        tally = compare(tally, choice::chosen(1 + k % MOST, &draws, k % 2 == 0));
+        compare(counts, choice::chosen(1 + k % MOST, &draws));
         seed = draws[DRAWS - 1];
     }
-    tally
 }
 
-fn say(words: &[u8], number: u64) {
-    io::write_all(STDOUT_FILENO, words);
-    io::print_decimal(STDOUT_FILENO, number);
-}
-
-fn say_compared(words: &[u8], tally: Tally) {
-    say(words, tally.networks);
-    say(b", orders ", tally.orders);
-}
-
-fn main() {
-    let all = compare_all();
-    let chosen = compare_chosen();
-    say_compared(b"networks of 1 to 5 buses with need 1: ", all);
-    say_compared(b"\nnetworks of 1 to 7 buses with chosen needs: ", chosen);
-    say(b"\nwith an isolated bus: ", chosen.isolated);
-    say(b"\nwith a need above its degree: ", chosen.above);
-    say(b"\ndifferences: ", all.differences + chosen.differences);
+// A line of the counts.
+fn say(counts: &[u64; COUNTED]) {
+    io::print_decimal(STDOUT_FILENO, counts[NETWORKS]);
+    for what in 1..COUNTED {
+        io::write_all(STDOUT_FILENO, b" ");
+        io::print_decimal(STDOUT_FILENO, counts[what]);
+    }
     io::write_all(STDOUT_FILENO, b"\n");
+}
+
+fn say_heading() {
+    io::write_all(
+        STDOUT_FILENO,
+        b"networks orders uneven above equal one between different wrong\n",
+    );
+}
+
+// A line for all networks of up to five buses with need 1, and one for those that are drawn.
+fn main() {
+    say_heading();
+    let mut counts = [0u64; COUNTED];
+    compare_all(&mut counts);
+    say(&counts);
+    counts = [0u64; COUNTED];
+    compare_chosen(&mut counts);
+    say(&counts);
 }

@@ -1,15 +1,14 @@
--- `order_average::compare_chosen` meets its contract. The loop's invariant: each draw passed is one network more at most. Assumes nothing.
-use borrow.Author.Needs.{needs}
+-- `order_average::compare_chosen` meets its contract. Assumes nothing.
 use Prim.Native.Nat.{_-_, _≤_}
-use Rattle.order_average.specs.Bounds.{Counted}
+use borrow.Author.Needs.{needs}
 use Rattle.order_average.proofs.compare_chosen.Statement.{statement}
 use Rattle.order_average.proofs.compare_chosen.Tie as tie
 
 abbrev Inv-loop : tie.InvT-loop
-Inv-loop tally₀ seed₀ k₀ tally seed k = (k ≤ 840) × Counted tally × (tally .networks ≤ k)
+Inv-loop counts₀ seed₀ k₀ counts seed k = k ≤ 840
 
 abbrev μ-loop : tie.MeasureT-loop
-μ-loop tally₀ seed₀ k₀ tally seed k = 840 - k
+μ-loop counts₀ seed₀ k₀ counts seed k = 840 - k
 
 pub compare-chosen-spec : {M : Type 1} → statement M
 compare-chosen-spec =
