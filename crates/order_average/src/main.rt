@@ -186,30 +186,38 @@ fn compare_chosen(counts: &mut [u64; COUNTED]) {
     }
 }
 
-// A line of the counts.
-fn say(counts: &[u64; COUNTED]) {
-    io::print_decimal(STDOUT_FILENO, counts[NETWORKS]);
-    for what in 1..COUNTED {
-        io::write_all(STDOUT_FILENO, b" ");
-        io::print_decimal(STDOUT_FILENO, counts[what]);
-    }
-    io::write_all(STDOUT_FILENO, b"\n");
+fn say(words: &[u8], number: u64) {
+    io::write_all(STDOUT_FILENO, words);
+    io::print_decimal(STDOUT_FILENO, number);
 }
 
-fn say_heading() {
-    io::write_all(
-        STDOUT_FILENO,
-        b"networks orders uneven above equal one between different wrong\n",
+// A line for each count.
+fn say_counts(counts: &[u64; COUNTED]) {
+    say(b"networks ", counts[NETWORKS]);
+    say(b"\norders gone through ", counts[ORDERS]);
+    say(b"\norders whose gains do not add up to n ", counts[UNEVEN]);
+    say(b"\nbuses with a need above the degree ", counts[ABOVE]);
+    say(b"\nbuses with a need equal to it ", counts[EQUAL]);
+    say(b"\nbuses with need 1 below it ", counts[ONE]);
+    say(b"\nbuses with a need between ", counts[BETWEEN]);
+    say(b"\nshares that are not the average ", counts[DIFFERENT]);
+    say(
+        b"\nshares by the wrong formula that are not ",
+        counts[WRONG],
     );
 }
 
-// A line for all networks of up to five buses with need 1, and one for those that are drawn.
 fn main() {
-    say_heading();
     let mut counts = [0u64; COUNTED];
     compare_all(&mut counts);
-    say(&counts);
+    io::write_all(STDOUT_FILENO, b"All networks of 1 to 5 buses with need 1\n");
+    say_counts(&counts);
     counts = [0u64; COUNTED];
     compare_chosen(&mut counts);
-    say(&counts);
+    io::write_all(
+        STDOUT_FILENO,
+        b"\n\nNetworks of 1 to 7 buses with lines and needs drawn\n",
+    );
+    say_counts(&counts);
+    io::write_all(STDOUT_FILENO, b"\n");
 }
