@@ -68,7 +68,7 @@ pub extern "C" fn share_sheet_degree(table: &[u16], bus: usize, degree: &mut usi
 }
 
 // Gives where the row of a bus begins in the table, and how many entries it has.
-// 01's Row is that part of the table itself, and where it is refused the empty part. So a caller in C takes the `entries` entries from `start` on where the status is 0, and otherwise none.
+// 01's Row is that part of the table itself, and where it is refused the empty part. So a caller in C takes the `entries` entries from `start` on where the status is 0, and otherwise none, since both places are then as they were.
 #[no_mangle]
 pub extern "C" fn share_sheet_row(
     table: &[u16],
