@@ -55,8 +55,8 @@ fn part(slice: &[u16], start: usize, entries: usize) -> &[u16]
     &slice[start..start + entries]
 }
 
-// The part of the lent table that holds a bus's neighbours; the empty part in front of it where `degree` refuses. It is said by
-// what it holds and by where it stands: in the table's block, and so many entries of two bytes behind the table's front.
+// The part of the lent table that holds a bus's neighbours; the empty part at its front where `degree` refuses. It is promised
+// by what it holds and by where it stands: in the table's block, so many entries of two bytes behind the table's front.
 pub fn row(table: &[u16], bus: usize) -> &[u16]
     ensures contents { λ r. ⌜ now r ≡ rowOutcome (now (table .entry)) bus ⌝ }
     ensures place { λ r. ⌜ (r .ptr .0 ≡ table .entry .ptr .0) × (r .ptr .1 ≡ table .entry .ptr .1 + rowBefore (now (table .entry)) bus * 2) ⌝ }

@@ -11,7 +11,7 @@ use reader::Reading;
 use reader::Refusal;
 use reader::read;
 use text::fill;
-pub use whole_sheet::Longest;
+pub use whole_sheet::LONGEST_SHEET;
 use whole_sheet::write_sheet;
 
 // Writes the line of a refused file.
@@ -24,7 +24,7 @@ fn write_refusal(cause: Refusal, out: &mut [u8]) -> usize
 }
 
 // Writes what the program prints for a file at the front of a buffer, and gives its byte count.
-pub fn report(file: &[u8], out: &mut [u8; Longest::SHEET]) -> usize
+pub fn report(file: &[u8], out: &mut [u8; LONGEST_SHEET]) -> usize
     ensures answer { λ r. ⌜ (r ≡ length (printed (now (file .entry)))) × (r ≤ length (now (out .exit))) ⌝ }
     ensures text { λ _. ⌜ now (out .exit) ≡ put (now (out .entry)) 0 (printed (now (file .entry))) ⌝ }
 {

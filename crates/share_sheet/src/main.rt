@@ -5,7 +5,7 @@ use libc::STDERR_FILENO;
 use libc::STDIN_FILENO;
 use libc::STDOUT_FILENO;
 use network::Network;
-use report::Longest;
+use report::LONGEST_SHEET;
 use report::report;
 
 // How many bytes of standard input were read, or that a read failed.
@@ -72,7 +72,7 @@ fn warn(file: &[u8]) {
 // Prints the sheet of a file, or the line that refuses it.
 fn answer(file: &[u8]) {
     warn(file);
-    let mut text = [0u8; Longest::SHEET];
+    let mut text = [0u8; LONGEST_SHEET];
     let length = report(file, &mut text);
     if !io::write_all(STDOUT_FILENO, &text[..length]) {
         os::fail(b"share-sheet: standard output cannot be written");

@@ -22,7 +22,7 @@ use refusals::Refusal;
 use scorer::AllShares;
 use scorer::OneShare;
 use sheet::Written;
-use whole_sheet::Longest;
+use whole_sheet::LONGEST_SHEET;
 
 // The status of a refused call.
 fn status(cause: Refusal) -> u32
@@ -211,5 +211,5 @@ pub extern "C" fn share_sheet_max_bytes() -> usize
 pub extern "C" fn share_sheet_max_text() -> usize
     ensures { λ r. ⌜ r ≡ longestSheet ⌝ }
 {
-    Longest::SHEET
+    LONGEST_SHEET
 }

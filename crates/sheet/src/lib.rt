@@ -13,7 +13,6 @@ ghost use Rattle.sheet.specs.Answers.{writtenSays, textOutcome, textAfte
 ghost use Rattle.sheet.specs.Work.{longestLine};
 use bytes::copy;
 use fraction::reduce;
-use network::Network;
 pub use network::Refusal;
 use network::table::lines;
 use network::table::need;
@@ -30,16 +29,8 @@ pub enum Written {
     Refused(Refusal),
 }
 
-// Bytes that are enough for texts.
-pub struct Longest;
-
-impl Longest {
-    // For every line of a sheet.
-    pub const LINE: usize = 49;
-
-    // For every sheet: the heading, and a line for each bus.
-    pub const SHEET: usize = Longest::LINE * (1 + Network::BUSES);
-}
+// Bytes that are enough for every line of a sheet.
+pub const LONGEST_LINE: usize = 49;
 
 // Writes the heading, and gives the place behind it.
 pub fn write_heading(table: &[u16], over: u64, out: &mut [u8], at: usize) -> usize
@@ -110,7 +101,7 @@ pub fn line(table: &[u16], i: usize, out: &mut [u8]) -> Written
     if size(table) < i {
         return Written::Refused(Refusal::NoSuchBus);
     }
-    let mut text = [0u8; Longest::LINE];
+    let mut text = [0u8; LONGEST_LINE];
     let bytes = write_line(table, i, &mut text);
     place(&text[..bytes], out)
 }

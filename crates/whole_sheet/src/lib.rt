@@ -11,13 +11,16 @@ ghost use Rattle.whole_sheet.specs.Work.{longestSheet, Scored};
 use network::Network;
 use network::table::size;
 use scorer::score;
-pub use sheet::Longest;
+use sheet::LONGEST_LINE;
 pub use sheet::Refusal;
 pub use sheet::Written;
 use sheet::place;
 use sheet::write_bus;
 use sheet::write_heading;
 use table_test::holds;
+
+// Bytes that are enough for every sheet: the heading, and a line for each bus.
+pub const LONGEST_SHEET: usize = LONGEST_LINE * (1 + Network::BUSES);
 
 // Writes sheet lines 0 to n at the front, and gives the place behind them.
 fn write_lines(table: &[u16], over: u64, numerators: &[u64], out: &mut [u8]) -> usize
@@ -54,7 +57,7 @@ pub fn whole(table: &[u16], out: &mut [u8]) -> Written
     if !holds(table) {
         return Written::Refused(Refusal::NoNetwork);
     }
-    let mut text = [0u8; Longest::SHEET];
+    let mut text = [0u8; LONGEST_SHEET];
     let bytes = write_sheet(table, &mut text);
     place(&text[..bytes], out)
 }
