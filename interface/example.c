@@ -15,9 +15,9 @@
 int main(void)
 {
     size_t most = share_sheet_max_bytes() + 1; /* a byte more than any network file has */
-    size_t entries = share_sheet_max_entries(), room = share_sheet_max_text();
+    size_t entries = share_sheet_max_entries(), text_len = share_sheet_max_text();
     size_t length, buses, lines, bytes = 0;
-    uint8_t *file = malloc(most), *text = malloc(room);
+    uint8_t *file = malloc(most), *text = malloc(text_len);
     uint16_t *table = malloc(entries * sizeof *table);
     uint32_t refused;
 
@@ -30,7 +30,7 @@ int main(void)
     }
     refused = share_sheet_read(file, length, table, entries, &buses, &lines);
     if (refused == 0)
-        refused = share_sheet_whole(table, entries, text, room, &bytes);
+        refused = share_sheet_whole(table, entries, text, text_len, &bytes);
     if (refused == 0)
         fwrite(text, 1, bytes, stdout);
     else

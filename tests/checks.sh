@@ -1,7 +1,7 @@
 # What the scripts that test commands share. Sourced at the top of the repository, with `limit` set to how many
 # seconds a command may take.
 # shellcheck shell=sh disable=SC2034,SC2154 # some names are for the scripts alone, and limit is theirs
-house=$(pwd)
+root=$(pwd)
 scratch=$(mktemp -d) || exit 1
 trap 'rm -rf "$scratch"' EXIT
 trap 'exit 1' HUP INT TERM
@@ -34,8 +34,8 @@ finish() {
 # The first line of a file, without bytes that are no text.
 first() { head -n 1 "$1" | tr -cd ' -~'; }
 
-# Where the output parts from a file.
-parting() { cmp "$out" "$1" 2>&1 | sed 's/.*\(byte [0-9]*\).*/they part at \1/'; }
+# Where the output first differs from a file.
+differs_at() { cmp "$out" "$1" 2>&1 | sed 's/.*\(byte [0-9]*\).*/they differ at \1/'; }
 
 # What differs from a wanted exit status, output (a file) and word in the messages
 # (the empty word: no message at all).
@@ -46,7 +46,7 @@ difference() { # STATUS OUTPUT WORD
     elif [ "$status" != "$1" ]; then
         echo "exit status $status, not $1: $(first "$err")"
     elif ! cmp -s "$out" "$2"; then
-        echo "wrote '$(first "$out")' ($(wc -c <"$out") bytes), not '$(first "$2")' ($(wc -c <"$2") bytes); $(parting "$2")"
+        echo "wrote '$(first "$out")' ($(wc -c <"$out") bytes), not '$(first "$2")' ($(wc -c <"$2") bytes); $(differs_at "$2")"
     elif [ -z "$3" ] && [ -s "$err" ]; then
         echo "said '$(first "$err")' on standard error"
     elif [ -n "$3" ] && ! grep -qF -e "$3" "$err"; then

@@ -8,11 +8,11 @@ use std::time::SystemTime;
 
 fn main() {
     let package = PathBuf::from(std::env::var_os("CARGO_MANIFEST_DIR").expect("cargo sets it"));
-    let Some(home) = package.ancestors().nth(2) else {
+    let Some(root) = package.ancestors().nth(2) else {
         fail("the package must stand in the folder interface/rust of its repository");
     };
-    let (crates, list) = (home.join("crates"), home.join("crates.txt"));
-    let folder = home.join("target/staticlib");
+    let (crates, list) = (root.join("crates"), root.join("crates.txt"));
+    let folder = root.join("target/staticlib");
     let archive = folder.join("libshare_sheet_c.a");
 
     for path in [&crates, &list, &archive] {
@@ -27,11 +27,11 @@ fn main() {
     }
 
     let changed = newest_source(&crates, &list).unwrap_or_else(|why| {
-        fail(&format!("cannot look at the sources in {}: {why}", home.display()));
+        fail(&format!("cannot look at the sources in {}: {why}", root.display()));
     });
     let built = fs::metadata(&archive).and_then(|found| found.modified());
     if built.map_or(true, |built| built < changed) {
-        build(home, &archive);
+        build(root, &archive);
         // The archive gets the date of its newest source. A source that changes during the build
         // is newer, and cargo does not take the archive for a file that changed after it looked.
         let dated = File::options().append(true).open(&archive);
@@ -58,11 +58,11 @@ fn newest_source(crates: &Path, list: &Path) -> io::Result<SystemTime> {
     Ok(newest)
 }
 
-/// Proves the library and writes its archive. What rt says is shown only if it fails.
-fn build(home: &Path, archive: &Path) {
+/// Proves the library and writes its archive. The output of rt is shown only if it fails.
+fn build(root: &Path, archive: &Path) {
     let mut rt = Command::new("rt");
-    rt.args(["staticlib", "share_sheet_c"]).current_dir(home).stdin(Stdio::null());
-    let said = rt.output().unwrap_or_else(|why| match why.kind() {
+    rt.args(["staticlib", "share_sheet_c"]).current_dir(root).stdin(Stdio::null());
+    let output = rt.output().unwrap_or_else(|why| match why.kind() {
         io::ErrorKind::NotFound => fail(&format!(
             "{} is missing or older than its sources, and Rattle's command 'rt', which builds it, \
              is not on the PATH. Put rt on the PATH, or bring an archive that was built from \
@@ -71,10 +71,10 @@ fn build(home: &Path, archive: &Path) {
         )),
         _ => fail(&format!("cannot run Rattle's command 'rt': {why}")),
     });
-    if !said.status.success() {
+    if !output.status.success() {
         // a failed proof leaves no archive behind
         let _ = fs::remove_file(archive);
-        for part in [&said.stdout, &said.stderr] {
+        for part in [&output.stdout, &output.stderr] {
             eprint!("{}", String::from_utf8_lossy(part));
         }
         fail("the library share_sheet_c was not built; rt says why above");

@@ -6,7 +6,7 @@
 //! builds. `docs/FORMAT.md` of the repository explains file, table, shares and sheet.
 //!
 //! Nothing is allocated here, and nothing is kept between calls: callers lend the slices, and
-//! [`limits`] tells which lengths are always enough. A refused call gives a [`Refusal`] and
+//! [`limits`] gives lengths that are always enough. A refused call gives a [`Refusal`] and
 //! changes nothing. Entries behind a table never matter.
 //!
 //! ```
@@ -186,7 +186,7 @@ pub fn degree(table: &[u16], bus: usize) -> Result<usize, Refusal> {
 /// Gives the neighbours of a bus in ascending order: a part of `table`.
 ///
 /// Refused as [`degree`] is. The scope of the library lets Row give the empty part where it is
-/// refused, and Degree tell why; that is `row(table, bus).unwrap_or_default()`.
+/// refused, and Degree the cause; that is `row(table, bus).unwrap_or_default()`.
 ///
 /// ```
 /// use share_sheet::{row, Refusal};

@@ -93,7 +93,7 @@ impl fmt::Display for Refusal {
 
 impl Error for Refusal {}
 
-/// What a status says: 0 that the call was accepted.
+/// What a status stands for: 0 for a call that was accepted.
 pub(crate) fn accepted(status: u32) -> Result<(), Refusal> {
     Err(match status {
         0 => return Ok(()),
@@ -123,18 +123,18 @@ mod tests {
     #[test]
     fn every_number_has_a_refusal_and_words_of_its_own() {
         assert_eq!(accepted(0), Ok(()));
-        let mut told = HashSet::new();
+        let mut words = HashSet::new();
         for number in 1..=14 {
             let refused = accepted(number).unwrap_err();
             assert_eq!(u32::from(refused.number()), number);
-            assert!(told.insert(refused.words()), "{refused}");
+            assert!(words.insert(refused.words()), "{refused}");
             assert_eq!(refused.to_string(), format!("refused {number}: {}", refused.words()));
         }
     }
 
     #[test]
     #[should_panic(expected = "returned 15")]
-    fn a_number_that_nobody_knows_is_no_refusal() {
+    fn an_unknown_number_is_no_refusal() {
         let _ = accepted(15);
     }
 }

@@ -147,7 +147,7 @@ fn lent_tables() {
     assert_eq!(read(&PATH, &mut lent[..12]), Ok(Counts { buses: 3, lines: 2 }));
     assert_eq!(lent[..12], PATH_TABLE);
     assert_eq!(lent[12..], [7, 7]);
-    // a bad record is told, and not that the slice is too short for it
+    // a bad record is the cause given, and not that the slice is too short
     refuses(&file(&[1; 3], &[(0, 1), (1, 3)]), 6);
 }
 
@@ -185,12 +185,12 @@ fn rows() {
 #[test]
 fn sheet() {
     let sheet = "buses 3 lines 2 over 6\n0 1 1 5 5/6\n1 1 2 8 4/3\n2 1 1 5 5/6\n";
-    for (line, said) in sheet.split_inclusive('\n').enumerate() {
+    for (line, wanted) in sheet.split_inclusive('\n').enumerate() {
         let mut text = [7; 30];
-        assert_eq!(sheet_line(&PATH_TABLE, line, &mut text), Ok(said.len()));
-        assert!(text.starts_with(said.as_bytes()));
-        assert!(text[said.len()..].iter().all(|&byte| byte == 7));
-        let mut short = vec![7; said.len() - 1];
+        assert_eq!(sheet_line(&PATH_TABLE, line, &mut text), Ok(wanted.len()));
+        assert!(text.starts_with(wanted.as_bytes()));
+        assert!(text[wanted.len()..].iter().all(|&byte| byte == 7));
+        let mut short = vec![7; wanted.len() - 1];
         assert_eq!(sheet_line(&PATH_TABLE, line, &mut short), Err(Refusal::TextTooShort));
         assert!(short.iter().all(|&byte| byte == 7));
     }

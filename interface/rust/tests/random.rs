@@ -64,19 +64,19 @@ fn alike<E: Copy + PartialEq + Debug, A: PartialEq + Debug>(
     library: impl FnOnce(&mut [E]) -> Result<A, Refusal>,
     plain: impl FnOnce(&mut [E]) -> Result<A, u8>,
 ) -> (Result<A, u8>, Vec<E>) {
-    let edge = [mark; 5];
-    let mut lent = [&edge, held, &edge].concat();
-    let mut twin = held.to_vec();
-    let inner = edge.len()..edge.len() + held.len();
+    let guard = [mark; 5];
+    let mut lent = [&guard, held, &guard].concat();
+    let mut copy = held.to_vec();
+    let inner = guard.len()..guard.len() + held.len();
     let answer = library(&mut lent[inner.clone()]).map_err(Refusal::number);
-    let wanted = plain(&mut twin);
+    let wanted = plain(&mut copy);
     assert_eq!(answer, wanted);
-    assert_eq!(lent[inner.clone()], twin);
-    assert_eq!([&lent[..inner.start], &lent[inner.end..]], [&edge, &edge]);
+    assert_eq!(lent[inner.clone()], copy);
+    assert_eq!([&lent[..inner.start], &lent[inner.end..]], [&guard, &guard]);
     if answer.is_err() {
-        assert_eq!(twin, held);
+        assert_eq!(copy, held);
     }
-    (answer, twin)
+    (answer, copy)
 }
 
 /// Marks that differ from entry to entry.
@@ -102,7 +102,7 @@ fn read(
 /// Makes every call on a table.
 fn call_all(table: &[u16], random: &mut Random, tallies: &mut Tallies) {
     let before = table.to_vec();
-    let mut room = [0; 1 << 16];
+    let mut buffer = [0; 1 << 16];
     let n = *table.first().unwrap_or(&0) as usize;
 
     // buses and lines: all of a small network, some of a large one, and numbers out of range, also
@@ -131,7 +131,7 @@ fn call_all(table: &[u16], random: &mut Random, tallies: &mut Tallies) {
         tallies.share.count(&share);
 
         let line = |text: &mut [u8]| plain::sheet_line(table, bus, text);
-        for length in text_lengths(line(&mut room), random) {
+        for length in text_lengths(line(&mut buffer), random) {
             let library = |text: &mut [u8]| share_sheet::sheet_line(table, bus, text);
             let (answer, _) = alike(&marks(length), 0xA5, library, line);
             tallies.line.count(&answer);
@@ -149,7 +149,7 @@ fn call_all(table: &[u16], random: &mut Random, tallies: &mut Tallies) {
     }
 
     let whole = |text: &mut [u8]| plain::whole_sheet(table, text);
-    for length in text_lengths(whole(&mut room), random) {
+    for length in text_lengths(whole(&mut buffer), random) {
         let library = |text: &mut [u8]| share_sheet::whole_sheet(table, text);
         let (answer, _) = alike(&marks(length), 0xA5, library, whole);
         tallies.whole.count(&answer);
@@ -158,7 +158,7 @@ fn call_all(table: &[u16], random: &mut Random, tallies: &mut Tallies) {
     assert_eq!(table, before);
 }
 
-/// No bytes, a byte too few, just enough and more, for a text that was written into enough room.
+/// No bytes, a byte too few, just enough and more, for a text whose byte count or refusal is given.
 fn text_lengths(written: Result<usize, u8>, random: &mut Random) -> Vec<usize> {
     match written {
         Ok(bytes) => vec![0, bytes - 1, bytes, bytes + 1 + random.below(9)],
@@ -208,7 +208,7 @@ fn files() {
                 earlier.truncate(entries);
             }
             Err(_) => {
-                // the file's fault is told, whatever is lent
+                // the file's own refusal is given, whatever is lent
                 for held in [&[], &earlier[..], &marks(random.below(60))[..]] {
                     assert_eq!(read(&file, held, &mut tallies).0, answer);
                 }

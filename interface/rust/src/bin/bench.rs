@@ -13,8 +13,8 @@ const BUDGET: Duration = Duration::from_millis(700);
 /// A timed piece is about this long, unless a single call takes longer.
 const PIECE: Duration = Duration::from_micros(50);
 
-/// The best times of two pieces of work, each in nanoseconds. Their runs take turns.
-fn race(mut library: impl FnMut(), mut plain: impl FnMut()) -> [f64; 2] {
+/// The best times of two pieces of work, each in nanoseconds. Their runs alternate.
+fn measure(mut library: impl FnMut(), mut plain: impl FnMut()) -> [f64; 2] {
     let start = Instant::now();
     let works: [&mut dyn FnMut(); 2] = [&mut library, &mut plain];
     let repeats = works.map(repeats);
@@ -100,7 +100,7 @@ impl Network {
         self.file(&self.lines)
     }
 
-    /// The file with its records in any order, and each turned or not.
+    /// The file with its records in any order, and the ends of each swapped or not.
     fn shuffled(&self) -> Vec<u8> {
         let mut state = 0x5EED_u64;
         let mut below = |bound: usize| {
@@ -128,49 +128,49 @@ impl Network {
     }
 }
 
-fn race_read(file: &[u8]) -> [f64; 2] {
+fn measure_read(file: &[u8]) -> [f64; 2] {
     let mut tables = [vec![0; limits().entries], vec![0; limits().entries]];
     let [mine, other] = &mut tables;
-    race(
+    measure(
         || _ = black_box(share_sheet::read(black_box(file), black_box(mine))),
         || _ = black_box(plain::read(black_box(file), black_box(other))),
     )
 }
 
-fn race_shares(table: &[u16]) -> [f64; 2] {
+fn measure_shares(table: &[u16]) -> [f64; 2] {
     let mut numerators = [vec![0; limits().buses], vec![0; limits().buses]];
     let [mine, other] = &mut numerators;
-    race(
+    measure(
         || _ = black_box(share_sheet::shares(black_box(table), black_box(mine))),
         || _ = black_box(plain::shares(black_box(table), black_box(other))),
     )
 }
 
 /// The mean over all buses.
-fn race_share(table: &[u16]) -> [f64; 2] {
+fn measure_share(table: &[u16]) -> [f64; 2] {
     let n = table[0] as usize;
-    let all = race(
+    let all = measure(
         || (0..n).for_each(|bus| _ = black_box(share_sheet::share(black_box(table), bus))),
         || (0..n).for_each(|bus| _ = black_box(plain::share(black_box(table), bus))),
     );
     all.map(|time| time / n as f64)
 }
 
-fn race_whole_sheet(table: &[u16]) -> [f64; 2] {
+fn measure_whole_sheet(table: &[u16]) -> [f64; 2] {
     let mut texts = [vec![0; limits().text_bytes], vec![0; limits().text_bytes]];
     let [mine, other] = &mut texts;
-    race(
+    measure(
         || _ = black_box(share_sheet::whole_sheet(black_box(table), black_box(mine))),
         || _ = black_box(plain::whole_sheet(black_box(table), black_box(other))),
     )
 }
 
 /// All lines, one call for each.
-fn race_sheet_lines(table: &[u16]) -> [f64; 2] {
+fn measure_sheet_lines(table: &[u16]) -> [f64; 2] {
     let n = table[0] as usize;
     let mut texts = [vec![0; limits().text_bytes], vec![0; limits().text_bytes]];
     let [mine, other] = &mut texts;
-    race(
+    measure(
         || (0..=n).for_each(|i| _ = black_box(share_sheet::sheet_line(black_box(table), i, mine))),
         || (0..=n).for_each(|i| _ = black_box(plain::sheet_line(black_box(table), i, other))),
     )
@@ -179,12 +179,12 @@ fn race_sheet_lines(table: &[u16]) -> [f64; 2] {
 fn print_calls(network: &Network) {
     let table = network.table();
     let calls = [
-        ("Read, records ascending", race_read(&network.ascending())),
-        ("Read, records shuffled and turned", race_read(&network.shuffled())),
-        ("Shares", race_shares(&table)),
-        ("Share, mean over all buses", race_share(&table)),
-        ("whole sheet, one call", race_whole_sheet(&table)),
-        ("whole sheet, a call for each line", race_sheet_lines(&table)),
+        ("Read, records ascending", measure_read(&network.ascending())),
+        ("Read, records shuffled, ends swapped", measure_read(&network.shuffled())),
+        ("Shares", measure_shares(&table)),
+        ("Share, mean over all buses", measure_share(&table)),
+        ("whole sheet, one call", measure_whole_sheet(&table)),
+        ("whole sheet, a call for each line", measure_sheet_lines(&table)),
     ];
     for (call, [library, plain]) in calls {
         let ratio = library / plain;
@@ -201,8 +201,8 @@ fn print_growth(network: impl Fn(u16) -> Network) {
         let table = network.table();
         let entries = table.len();
         let each = |times: [f64; 2]| times.map(|time| time / entries as f64);
-        let [read, plain_read] = each(race_read(&network.ascending()));
-        let [shares, plain_shares] = each(race_shares(&table));
+        let [read, plain_read] = each(measure_read(&network.ascending()));
+        let [shares, plain_shares] = each(measure_shares(&table));
         println!(
             "| {buses} | {entries} | {read:.2} | {plain_read:.2} | {shares:.2} | {plain_shares:.2} |"
         );
@@ -212,7 +212,7 @@ fn print_growth(network: impl Fn(u16) -> Network) {
 
 fn main() {
     println!("The proved library against a plain reading of the scope in safe Rust (tests/plain).");
-    println!("Times are nanoseconds, the best of many runs; library and plain reading take turns.");
+    println!("Times are nanoseconds, the best of many runs; library and plain reading alternate.");
     println!("Slices are allocated before and not cleared between runs. Need 1 at each bus.");
     println!();
     println!("| Network | Call | Library | Plain | Library / plain |");

@@ -53,7 +53,7 @@ impl Network {
             _ => 512,
         };
         let lines = match random.below(10) {
-            0 if n > 24 => Self::crowded(n, random),
+            0 if n > 24 => Self::dense_lines(n, random),
             _ => Self::any_lines(n, random),
         };
         let mut network = Network { needs: vec![1; n], lines };
@@ -92,7 +92,7 @@ impl Network {
 
     /// Lines of which 23, or almost so many, are at each bus: those to the nearest buses of a
     /// ring and to the one across, with a few left out.
-    fn crowded(n: usize, random: &mut Random) -> Vec<(u16, u16)> {
+    fn dense_lines(n: usize, random: &mut Random) -> Vec<(u16, u16)> {
         let missing = random.of(&[usize::MAX, 2, 50]);
         let mut lines = Vec::new();
         for bus in 0..n {
@@ -106,15 +106,15 @@ impl Network {
         lines
     }
 
-    /// Puts the records in ascending order or in any other, and turns none, some or all.
+    /// Puts the records in ascending or any order, and swaps the ends of none, some or all.
     fn order(&mut self, random: &mut Random) {
         self.lines.sort_unstable();
         if random.one_in(2) {
             random.shuffle(&mut self.lines);
         }
-        let turned = random.of(&[0, 0, 1, 2]);
+        let swapped = random.of(&[0, 0, 1, 2]);
         for line in &mut self.lines {
-            if turned > 0 && random.one_in(turned) {
+            if swapped > 0 && random.one_in(swapped) {
                 *line = (line.1, line.0);
             }
         }
@@ -219,7 +219,7 @@ fn recount(file: &mut [u8], place: usize, count: u16) {
     }
 }
 
-/// Bytes that nobody meant as a file.
+/// Random bytes, which are seldom a file.
 pub fn random_bytes(random: &mut Random) -> Vec<u8> {
     let most = random.of(&[3, 6, 26, 256]);
     (0..random.below(40)).map(|_| random.below(most) as u8).collect()
@@ -246,7 +246,7 @@ pub fn damage_rows(rows: &mut [Vec<u16>], random: &mut Random) {
     let other = random.below(n);
     let at = random.below(rows[bus].len());
     match random.below(8) {
-        // a line that its other end does not know
+        // a line in the row of one end only
         0 if !rows[bus].is_empty() => drop(rows[bus].remove(at)),
         1 if bus != other && !rows[bus].contains(&(other as u16)) => {
             rows[bus].push(other as u16);
@@ -272,7 +272,7 @@ pub fn damage_rows(rows: &mut [Vec<u16>], random: &mut Random) {
         }
         // a bus that is not there
         5 => rows[bus].push(n as u16 + random.of(&[0, 1, 256])),
-        // a bus with 24 lines, each known at both ends
+        // a bus with 24 lines, each in the rows of both ends
         6 if n > 24 => {
             for other in (0..n).filter(|&other| other != bus).take(24) {
                 for (row, end) in [(bus, other as u16), (other, bus as u16)] {
@@ -310,7 +310,7 @@ pub fn damage_table(table: &mut Vec<u16>, random: &mut Random) {
     }
 }
 
-/// Entries that nobody meant as a table.
+/// Random entries, which are seldom a table.
 pub fn random_table(random: &mut Random) -> Vec<u16> {
     let most = random.of(&[2, 3, 5, 30, 65536]);
     (0..random.below(30)).map(|_| random.below(most) as u16).collect()

@@ -1,6 +1,5 @@
 //! A second reading of the scope in plain safe Rust, which shares nothing with the library. Tests
-//! compare the library with it, and the benchmark takes it for the measure. Refusals are their
-//! numbers.
+//! compare the library with it, and the benchmark measures against it. Refusals are their numbers.
 #![allow(dead_code)] // each program that has this module uses a part of it
 
 // The scope's limits. They stand here a second time, so that a wrong limit of the library is seen.
@@ -249,25 +248,25 @@ pub fn sheet_line(table: &[u16], line: usize, text: &mut [u8]) -> Result<usize, 
         return Err(13);
     }
     let l = network.denominator();
-    let said = match line.checked_sub(1) {
+    let content = match line.checked_sub(1) {
         None => network.heading(l),
         Some(bus) => network.line(bus, network.numerator(bus, l), l),
     };
-    write(&said, text)
+    write(&content, text)
 }
 
 /// Writes all lines; gives their bytes.
 pub fn whole_sheet(table: &[u16], text: &mut [u8]) -> Result<usize, u8> {
     let network = Network::of(table)?;
     let l = network.denominator();
-    let mut said = network.heading(l);
+    let mut sheet = network.heading(l);
     for (bus, &numerator) in network.numerators(l).iter().enumerate() {
-        said += &network.line(bus, numerator, l);
+        sheet += &network.line(bus, numerator, l);
     }
-    write(&said, text)
+    write(&sheet, text)
 }
 
-fn write(said: &str, text: &mut [u8]) -> Result<usize, u8> {
-    text.get_mut(..said.len()).ok_or(14)?.copy_from_slice(said.as_bytes());
-    Ok(said.len())
+fn write(content: &str, text: &mut [u8]) -> Result<usize, u8> {
+    text.get_mut(..content.len()).ok_or(14)?.copy_from_slice(content.as_bytes());
+    Ok(content.len())
 }
