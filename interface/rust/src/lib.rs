@@ -128,7 +128,7 @@ pub fn limits() -> Limits {
 /// Refused because of the file with [`FileTooShort`](Refusal::FileTooShort),
 /// [`BusCount`](Refusal::BusCount), [`Need`](Refusal::Need), [`LineCount`](Refusal::LineCount) or
 /// [`FileTooLong`](Refusal::FileTooLong), in file order; then, each over all records before the
-/// next, with [`LineEnds`](Refusal::LineEnds), [`CrowdedBus`](Refusal::CrowdedBus) or
+/// next, with [`LineEnds`](Refusal::LineEnds), [`DegreeTooHigh`](Refusal::DegreeTooHigh) or
 /// [`RepeatedLine`](Refusal::RepeatedLine); then with [`TableTooShort`](Refusal::TableTooShort). A
 /// refused call leaves the network that `table` held.
 ///

@@ -31,7 +31,7 @@ pub enum Refusal {
     /// A record names a bus that the network does not have, or one bus twice.
     LineEnds,
     /// A bus stands in more records than it may have lines.
-    CrowdedBus,
+    DegreeTooHigh,
     /// Two records name the same two buses, in either order.
     RepeatedLine,
     /// The denominator is 0.
@@ -71,7 +71,7 @@ impl Refusal {
             Refusal::LineEnds => {
                 "a record names a bus that the network does not have, or one bus twice"
             }
-            Refusal::CrowdedBus => "a bus stands in more records than it may have lines",
+            Refusal::DegreeTooHigh => "a bus stands in more records than it may have lines",
             Refusal::RepeatedLine => "two records name the same two buses",
             Refusal::NoDenominator => "the denominator is 0",
             Refusal::TableTooShort => "too few entries are lent for the table",
@@ -103,7 +103,7 @@ pub(crate) fn accepted(status: u32) -> Result<(), Refusal> {
         4 => Refusal::LineCount,
         5 => Refusal::FileTooLong,
         6 => Refusal::LineEnds,
-        7 => Refusal::CrowdedBus,
+        7 => Refusal::DegreeTooHigh,
         8 => Refusal::RepeatedLine,
         9 => Refusal::NoDenominator,
         10 => Refusal::TableTooShort,
