@@ -90,8 +90,8 @@ impl Network {
         lines
     }
 
-    /// Lines of which 23, or almost so many, are at each bus: those to the nearest buses of a
-    /// ring and to the one across, with a few left out.
+    /// Lines to the 11 nearest buses on either side of a ring and to the one across, up to 23 at
+    /// each bus. None of them, half or a few are left out.
     fn dense_lines(n: usize, random: &mut Random) -> Vec<(u16, u16)> {
         let missing = random.of(&[usize::MAX, 2, 50]);
         let mut lines = Vec::new();
@@ -120,7 +120,7 @@ impl Network {
         }
     }
 
-    /// Puts one fault into needs or records.
+    /// Puts one fault into needs or records, or drops records.
     pub fn damage(&mut self, random: &mut Random) {
         let n = self.needs.len();
         let bus = random.below(n) as u16;
