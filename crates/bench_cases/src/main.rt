@@ -1,4 +1,8 @@
-// 01's bench cases: those that are not starred are run, the starred ones are a claim of specs/.
+// The scope's bench cases that are not starred, run one after another; the starred ones are a claim of `starred_cases`.
+mod cases;
+mod files;
+mod text;
+
 fn main() {
     cases::run();
 }

@@ -1,3 +1,3 @@
 -- Networks by reach: the network, and that its shares are defined.
 pub mod ByReach
-pub mod Sound
+pub mod ByReachSound

@@ -1,4 +1,4 @@
--- The binary rule for the greatest common divisor: a turn of the loop keeps it, and the twos give it back. Assumes nothing.
+-- The binary rule for the greatest common divisor: an iteration of the loop keeps it, and the twos give it back.
 use mathlib.Core.Path.{_≡_, sym, ap, ap₂, _∙_}
 use Prim.Native.Nat.{ℕ, _+_, _-_, _*_, _%_, _^_, _≤_, _<_, min}
 use native.Mathlib.Nat.{mod-eq-of-lt, le-of-dvd}
@@ -15,8 +15,8 @@ pub record Odds (g a b : ℕ) : Type 0 where
   pub right : b % 2 ≡ 1
   pub kept : gcdOf a b ≡ g
 
-turn-le : (a b : ℕ) {g r : ℕ} → Odds g a b → a ≤ b → OddPart (b - a) r → Odds g a r
-turn-le a b {r = r} i h p = record {
+step-le : (a b : ℕ) {g r : ℕ} → Odds g a b → a ≤ b → OddPart (b - a) r → Odds g a r
+step-le a b {r = r} i h p = record {
   left = i .left;
   right = p .odd;
   kept =
@@ -24,9 +24,9 @@ turn-le a b {r = r} i h p = record {
       ∙ gcd-comm b a ∙ i .kept;
 }
 
--- a turn: the smaller stays, and the gap without its twos takes the larger's place
-pub turn : {g a b d m r : ℕ} → Odds g a b → d ≡ (b - a) + (a - b) → OddPart d r → m ≡ min a b → Odds g m r
-turn {g} {a} {b} {d} {m} {r} i e p f = go (decLe a b)
+-- an iteration: the smaller stays, and the gap without its twos takes the larger's place
+pub step : {g a b d m r : ℕ} → Odds g a b → d ≡ (b - a) + (a - b) → OddPart d r → m ≡ min a b → Odds g m r
+step {g} {a} {b} {d} {m} {r} i e p f = go (decLe a b)
   where
     flip : Odds g b a
     flip = record { left = i .right; right = i .left; kept = gcd-comm b a ∙ i .kept }
@@ -35,11 +35,11 @@ turn {g} {a} {b} {d} {m} {r} i e p f = go (decLe a b)
     go (yes h) =
         let low : m ≡ a = omega arith in
         let gap : d ≡ b - a = omega arith in
-        rw low (turn-le a b i h (rw gap at p))
+        rw low (step-le a b i h (rw gap at p))
     go (no h) =
         let low : m ≡ b = omega arith in
         let gap : d ≡ a - b = omega arith in
-        rw low (turn-le b a flip (omega arith) (rw gap at p))
+        rw low (step-le b a flip (omega arith) (rw gap at p))
 
 -- the odd parts agree: with the twos that both have it is the greatest common divisor, and it fits
 pub agreed : {x y a₀ b₀ a b t : ℕ} → 0 < x → x < 2 ^ 64 → OddPart x a₀ → OddPart y b₀ → Odds (gcdOf a₀ b₀) a b → a ≡ b

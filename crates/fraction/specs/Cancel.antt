@@ -1,5 +1,5 @@
--- Cancelling a fraction: what an answer of `cancel` says, which one is due, and the rule that it obeys.
--- Definitions only. Assumes nothing.
+-- Cancelling a fraction: the outcome that an answer of `cancel` stands for, which one is due, and the rule that it obeys.
+-- Definitions only.
 use mathlib.Core.List.{[], _∷_}
 use mathlib.Core.Path.{_≡_}
 use Prim.Native.Nat.{ℕ, _*_, _/_, _<_}
@@ -11,10 +11,10 @@ use Rattle.fraction.specs.declared.Cancelled.{Cancelled}
 use Rattle.fraction.specs.declared.Cancelled.the-variants.{Pair, Refused}
 use Rattle.fraction.specs.Divisors.{IsGcd, gcdOf}
 
--- the values of an answer, or 01's number of the refusal
-abbrev pub cancelSays : Cancelled → Outcome (ℕ × ℕ)
-cancelSays (Pair p q) = gives (p, q)
-cancelSays (Refused r) = refuses (numberOf r)
+-- the values of an answer, or the scope's number of the refusal
+abbrev pub outcomeOfCancelled : Cancelled → Outcome (ℕ × ℕ)
+outcomeOfCancelled (Pair p q) = gives (p, q)
+outcomeOfCancelled (Refused r) = refuses (numberOf r)
 
 -- both numbers divided by their greatest common divisor
 abbrev pub cancelled : ℕ → ℕ → ℕ × ℕ

@@ -1,5 +1,5 @@
 -- Greatest common divisors and least common multiples: what they are, and how they are computed.
--- Definitions only. Assumes nothing.
+-- Definitions only.
 use mathlib.Core.List.{List, [], _∷_}
 use Prim.Native.Nat.{ℕ, zero, suc, _*_, _/_, _%_, _∣_}
 use Rattle.lists.specs.Lists.{_∈_}
@@ -10,13 +10,13 @@ pub record IsGcd (a b g : ℕ) : Type 0 where
   pub right : g ∣ b
   pub greatest : (d : ℕ) → d ∣ a → d ∣ b → d ∣ g
 
--- Euclid's rule, for at most n turns
+-- Euclid's rule, for at most n steps
 unfoldable pub euclid : ℕ → ℕ → ℕ → ℕ
 euclid zero a b = a
 euclid (suc n) a zero = a
 euclid (suc n) a (suc b) = euclid n (suc b) (a % suc b)
 
--- the greatest common divisor by Euclid's rule, for which b turns are enough
+-- the greatest common divisor by Euclid's rule, for which b steps are enough
 unfoldable pub gcdOf : ℕ → ℕ → ℕ
 unfolding euclid
 gcdOf a b = euclid b a b

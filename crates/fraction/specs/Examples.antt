@@ -1,4 +1,4 @@
--- Small fractions, the widest ones, and common multiples, computed. Assumes nothing.
+-- Small fractions, the widest ones, and common multiples, computed.
 use mathlib.Core.List.{[], _∷_}
 use mathlib.Core.Path.{_≡_, refl}
 use Prim.Native.Nat.{_-_, _^_}

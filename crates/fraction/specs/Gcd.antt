@@ -1,4 +1,4 @@
--- Euclid's rule gives the greatest common divisor, there is no other, and its laws. Assumes nothing.
+-- Euclid's rule gives the greatest common divisor, there is no other, and its laws.
 use mathlib.Core.Path.{_≡_, sym, ap, _∙_}
 use mathlib.Core.Logic.{_⊎_, inl, inr}
 use Prim.Native.Nat.{ℕ, zero, suc, _+_, _-_, _*_, _/_, _%_, _≤_, _<_, _∣_}
@@ -15,9 +15,9 @@ gcd-zero a = record { left = dvd-refl a; right = dvd-zero a; greatest = λ d p q
 pub gcd-flip : {a b g : ℕ} → IsGcd a b g → IsGcd b a g
 gcd-flip i = record { left = i .right; right = i .left; greatest = λ d p q. i .greatest d q p }
 
--- a turn of Euclid's rule
-pub gcd-turn : {a b g : ℕ} → IsGcd b (a % b) g → IsGcd a b g
-gcd-turn {a} {b} {g} i = record {
+-- a step of Euclid's rule
+pub gcd-step : {a b g : ℕ} → IsGcd b (a % b) g → IsGcd a b g
+gcd-step {a} {b} {g} i = record {
   left = dvd-mod-iff g (i .left) .0 (i .right);
   right = i .left;
   greatest = λ d p q. i .greatest d q (dvd-mod-iff d q .1 p);
@@ -28,7 +28,7 @@ unfolding euclid
 euclid-gcd zero a zero h = gcd-zero a
 euclid-gcd zero a (suc b) h = absurd (omega arith)
 euclid-gcd (suc n) a zero h = gcd-zero a
-euclid-gcd (suc n) a (suc b) h = gcd-turn (euclid-gcd n (suc b) (a % suc b) (omega (arith, mod-lt a (zero-lt-suc b))))
+euclid-gcd (suc n) a (suc b) h = gcd-step (euclid-gcd n (suc b) (a % suc b) (omega (arith, mod-lt a (zero-lt-suc b))))
 
 pub gcd-is : (a b : ℕ) → IsGcd a b (gcdOf a b)
 unfolding gcdOf

@@ -1,4 +1,4 @@
--- `lcmOf` is the least common multiple and there is no other; `lcmAll` is that of a whole list. Assumes nothing.
+-- `lcmOf` is the least common multiple and there is no other; `lcmAll` is that of a whole list.
 use mathlib.Core.List.{List, [], _∷_}
 use mathlib.Core.Logic.{_⊎_, inl, inr}
 use mathlib.Core.Path.{_≡_, sym, ap, _∙_}
@@ -8,7 +8,7 @@ use native.Mathlib.Nat.{dvd-zero, dvd-trans, dvd-antisymm, dvd-mul-left, dvd-mul
 use native.Mathlib.Omega.{arith}
 use lib.Dec.{eqb}
 use borrow.Author.Tests.{eqb-true}
-use Rattle.lists.specs.Lists.{tally, count, _∈_}
+use Rattle.lists.specs.Lists.{indicator, count, _∈_}
 use Rattle.lists.specs.Below.{mapBelow}
 use Rattle.lists.specs.Tests.{split}
 use Rattle.lists.specs.Counts.{in-first, count-append}
@@ -83,7 +83,7 @@ lcmAll-multiple (y ∷ l) x i =
     let both = lcm-is y (lcmAll l) in
     split (eqb x y)
     (λ e. rw (eqb-true x y e) (both .left))
-    (λ e. dvd-trans x (lcmAll-multiple l x (omega (arith, ap tally e))) (both .right))
+    (λ e. dvd-trans x (lcmAll-multiple l x (omega (arith, ap indicator e))) (both .right))
 
 pub lcmAll-least : (l : List ℕ) (m : ℕ) → CommonMultiple l m → lcmAll l ∣ m
 unfolding lcmAll

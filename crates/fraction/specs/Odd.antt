@@ -1,4 +1,4 @@
--- Odd parts: what is left of a number without its twos, and greatest common divisors from those of the odd parts. Assumes nothing.
+-- Odd parts: what is left of a number without its twos, and greatest common divisors from those of the odd parts.
 use mathlib.Core.Path.{_≡_, refl, sym, ap, _∙_}
 use mathlib.Core.Logic.{_⊎_, inl, inr}
 use Prim.Native.Nat.{ℕ, zero, suc, _+_, _-_, _*_, _/_, _%_, _^_, _≤_, _<_, _∣_, min}

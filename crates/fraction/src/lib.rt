@@ -2,7 +2,7 @@
 ghost use mathlib.Core.Path.{_≡_};
 ghost use Prim.Native.Nat.{_+_, _-_, _^_, _<_, min};
 ghost use Rattle.fraction.specs.Divisors.{IsGcd, IsLcm, lcmOf};
-ghost use Rattle.fraction.specs.Cancel.{cancelSays, cancelled, cancelOutcome, CancelRule};
+ghost use Rattle.fraction.specs.Cancel.{outcomeOfCancelled, cancelled, cancelOutcome, CancelRule};
 ghost use Rattle.fraction.specs.Odd.{OddPart};
 use refusals::Refusal;
 
@@ -76,8 +76,8 @@ pub fn reduce(numerator: u64, denominator: u64) -> Lowest
 
 // The fraction in lowest terms.
 pub fn cancel(numerator: u64, denominator: u64) -> Cancelled
-    ensures answer { λ r. ⌜ cancelSays r ≡ cancelOutcome numerator denominator ⌝ }
-    ensures rule { λ r. ⌜ CancelRule numerator denominator (cancelSays r) ⌝ }
+    ensures answer { λ r. ⌜ outcomeOfCancelled r ≡ cancelOutcome numerator denominator ⌝ }
+    ensures rule { λ r. ⌜ CancelRule numerator denominator (outcomeOfCancelled r) ⌝ }
 {
     if denominator == 0 {
         return Cancelled::Refused(Refusal::NoDenominator);

@@ -1,4 +1,4 @@
--- `orders (range n)` holds every order of n buses once, and nothing else. Assumes nothing.
+-- `orders (range n)` holds every order of n buses once, and nothing else.
 use mathlib.Core.Bool.{true, false, cond}
 use mathlib.Core.List.{List, [], _∷_}
 use mathlib.Core.Logic.{⊎-elim}
@@ -9,12 +9,13 @@ use native.Mathlib.Omega.{arith}
 use lib.Dec.{eqb}
 use lib.ListN.{length}
 use borrow.Author.Tests.{eq-eqb, eqb-true, ne-eqb, lt-ltb}
-use Rattle.lists.specs.Lists.{tally, count, _∈_, has, Once}
+use Rattle.lists.specs.Lists.{indicator, count, _∈_, has, Once}
 use Rattle.lists.specs.Below.{range}
 use Rattle.lists.specs.Tests.{split, passes, eqb-self, eqb-comm}
 use Rattle.lists.specs.Sums.{sumBy-ones}
 use Rattle.lists.specs.Counts.{in-has, in-first}
-use Rattle.lists.specs.Range.{length-range, count-range, range-once}
+use Rattle.lists.specs.SumsBelow.{count-range, range-once}
+use Rattle.lists.specs.JoinBelow.{length-range}
 use Rattle.game.specs.Orders.{orders, factorial, same, times, EveryOrderOnce}
 use Rattle.game.specs.Arrange.{overInsertions, overOrders, overOrders-cong, overOrders-scale, sum-orders, Inserted, OrderOf, count-order}
 use Rattle.game.specs.Arrange.Inserted.{here, later}
@@ -57,8 +58,8 @@ found (x ∷ xs) f h =
 
 order-of-times : (xs l : List ℕ) → 0 < times l (orders xs) → OrderOf xs l
 order-of-times xs l h =
-    let (m, o, p) = found xs (λ m. tally (same l m)) (rw (sum-orders xs (λ m. tally (same l m))) at h) in
-    subst (λ k. OrderOf xs k) (sym (same-eq l m (passes (same l m) (λ f. omega (arith, ap tally f))))) o
+    let (m, o, p) = found xs (λ m. indicator (same l m)) (rw (sum-orders xs (λ m. indicator (same l m))) at h) in
+    subst (λ k. OrderOf xs k) (sym (same-eq l m (passes (same l m) (λ f. omega (arith, ap indicator f))))) o
 
 -- ---- and each order stands among them once
 
@@ -67,16 +68,16 @@ abbrev remove : ℕ → List ℕ → List ℕ
 remove x [] = []
 remove x (y ∷ l) = cond (eqb x y) l (y ∷ remove x l)
 
-count-remove : (i x : ℕ) (l : List ℕ) → x ∈ l → tally (eqb i x) + count i (remove x l) ≡ count i l
+count-remove : (i x : ℕ) (l : List ℕ) → x ∈ l → indicator (eqb i x) + count i (remove x l) ≡ count i l
 count-remove i x [] h = absurd (omega arith)
 count-remove i x (y ∷ l) h =
     split (eqb x y)
     (λ e. rw (e, eqb-true x y e))
-    (λ e. rw e (omega (arith, count-remove i x l (omega (arith, ap tally e)))))
+    (λ e. rw e (omega (arith, count-remove i x l (omega (arith, ap indicator e)))))
 
 -- x can be put into m in one way at most to make l
 overInsertions-same : (x : ℕ) (m : List ℕ) → count x m ≡ 0 → (l : List ℕ)
-    → overInsertions x m (λ r. tally (same l r)) ≡ tally (has x l) * tally (same (remove x l) m)
+    → overInsertions x m (λ r. indicator (same l r)) ≡ indicator (has x l) * indicator (same (remove x l) m)
 overInsertions-same x [] h [] = refl
 overInsertions-same x [] h (y ∷ l) =
     split (eqb x y)
@@ -85,27 +86,27 @@ overInsertions-same x [] h (y ∷ l) =
 overInsertions-same x (z ∷ m) h [] = omega (arith, overInsertions-const x m 0)
 overInsertions-same x (z ∷ m) h (y ∷ l) =
     split (eqb x y)
-    (λ e. let n : eqb x z ≡ false = ne-eqb x z (λ q. omega (arith, ap tally (eq-eqb x z q))) in
+    (λ e. let n : eqb x z ≡ false = ne-eqb x z (λ q. omega (arith, ap indicator (eq-eqb x z q))) in
     rw (e, ← eqb-true x y e, eqb-self x, n, lt-ltb 0 (1 + count x l) (omega arith)) (omega (arith, overInsertions-const x m 0)))
     (λ e. rw (e, eqb-comm y x, e)
     (split (eqb y z)
     (λ t. rw t (simp zero-add (overInsertions-same x m (omega arith) l)))
     (λ t. rw t (omega (arith, overInsertions-const x m 0)))))
 
-times-order : (xs : List ℕ) → Once xs → (l : List ℕ) → ((i : ℕ) → count i l ≡ count i xs) → overOrders xs (λ m. tally (same l m)) ≡ 1
+times-order : (xs : List ℕ) → Once xs → (l : List ℕ) → ((i : ℕ) → count i l ≡ count i xs) → overOrders xs (λ m. indicator (same l m)) ≡ 1
 times-order [] d [] h = refl
 times-order [] d (y ∷ l) h = absurd (omega (arith, h y, in-first y l))
 times-order (x ∷ xs) d l h =
     let t : x ∈ l = omega (arith, h x, in-first x xs) in
-    overOrders-cong xs (λ m o. overInsertions-same x m (omega (arith, count-order o x, d x, ap tally (eqb-self x))) l)
-    ∙ overOrders-scale xs (tally (has x l)) (λ m. tally (same (remove x l) m))
-    ∙ ap₂ _*_ (ap tally (in-has x l t))
+    overOrders-cong xs (λ m o. overInsertions-same x m (omega (arith, count-order o x, d x, ap indicator (eqb-self x))) l)
+    ∙ overOrders-scale xs (indicator (has x l)) (λ m. indicator (same (remove x l) m))
+    ∙ ap₂ _*_ (ap indicator (in-has x l t))
     (times-order xs (λ i. omega (arith, d i)) (remove x l) (λ i. omega (arith, count-remove i x l t, h i)))
 
 -- THE ORDERS
 pub every-order-once : (n : ℕ) → EveryOrderOnce n (orders (range n))
 every-order-once n = record {
   size = how-many (range n) ∙ ap factorial (length-range n);
-  once = λ l o. sum-orders (range n) (λ m. tally (same l m)) ∙ times-order (range n) (range-once n) l (λ i. o i ∙ sym (count-range i n));
+  once = λ l o. sum-orders (range n) (λ m. indicator (same l m)) ∙ times-order (range n) (range-once n) l (λ i. o i ∙ sym (count-range i n));
   only = λ l h i. count-order (order-of-times (range n) l h) i ∙ count-range i n;
 }

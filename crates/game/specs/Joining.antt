@@ -1,4 +1,4 @@
--- What only some of the players decide: their orders are enough. Assumes nothing.
+-- What only some of the players decide: their orders are enough.
 use mathlib.Core.Bool.{false}
 use mathlib.Core.List.{List, [], _∷_, _++_}
 use mathlib.Core.Path.{_≡_, refl, sym, ap, ap₂, _∙_}
@@ -8,7 +8,7 @@ use native.Mathlib.Omega.{arith}
 use lib.Dec.{eqb}
 use lib.ListN.{length}
 use borrow.Author.Tests.{eqb-true}
-use Rattle.lists.specs.Lists.{tally, sumBy, count, _∈_, has, without}
+use Rattle.lists.specs.Lists.{indicator, sumBy, count, _∈_, has, without}
 use Rattle.lists.specs.Tests.{split, eqb-self}
 use Rattle.lists.specs.Counts.{has-in, has-none, in-first, count-append, count-without}
 use Rattle.game.specs.Orders.{orders, factorial, before, Ignores}
@@ -79,5 +79,5 @@ module _ (ps c : List ℕ) (inside : (i : ℕ) → i ∈ c → count i c ≡ cou
 -- one member may be put last
 pub one-last : (v : ℕ) (l : List ℕ) → count v l ≡ 1 → OrderOf l (without (v ∷ []) l ++ (v ∷ []))
 one-last v l h = part-last l (v ∷ []) (λ i p. split (eqb i v)
-    (λ e. let q : i ≡ v = eqb-true i v e in rw q (omega (arith, ap tally (eqb-self v))))
-    (λ e. absurd (omega (arith, ap tally e))))
+    (λ e. let q : i ≡ v = eqb-true i v e in rw q (omega (arith, ap indicator (eqb-self v))))
+    (λ e. absurd (omega (arith, ap indicator e))))

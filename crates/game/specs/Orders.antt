@@ -1,12 +1,12 @@
 -- Orders of fitting: every list of the players in which each of them stands once.
--- Definitions only. Assumes nothing.
+-- Definitions only.
 use mathlib.Core.Bool.{Bool, true, false, cond, _&&_}
 use mathlib.Core.List.{List, [], _∷_, _++_, map, flatMap}
 use mathlib.Core.Path.{_≡_}
 use Prim.Native.Nat.{ℕ, zero, suc, _*_, _<_}
 use lib.Dec.{eqb, ltb}
 use lib.ListN.{length}
-use Rattle.lists.specs.Lists.{tally, countBy, count}
+use Rattle.lists.specs.Lists.{indicator, countBy, count}
 
 -- the lists made by putting x into l, one for each place
 abbrev pub insertions : ℕ → List ℕ → List (List ℕ)
@@ -31,9 +31,9 @@ before v (x ∷ l) = cond (eqb v x) [] (x ∷ before v l)
 abbrev pub Ignores : ℕ → (List ℕ → ℕ) → Type 0
 Ignores r f = (p s : List ℕ) → f (p ++ r ∷ s) ≡ f (p ++ s)
 
--- l is an order of n buses (01's term): each bus from 0 to n - 1 stands in it once, and nothing else does
+-- l is an order of n buses (the scope's term): each bus from 0 to n - 1 stands in it once, and nothing else does
 abbrev pub IsOrder : ℕ → List ℕ → Type 0
-IsOrder n l = (i : ℕ) → count i l ≡ tally (ltb i n)
+IsOrder n l = (i : ℕ) → count i l ≡ indicator (ltb i n)
 
 -- are two lists the same?
 abbrev pub same : List ℕ → List ℕ → Bool

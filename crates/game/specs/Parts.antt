@@ -1,5 +1,5 @@
 -- Islands of a game, and a game by other numbers.
--- Definitions only. Assumes nothing.
+-- Definitions only.
 use mathlib.Core.List.{List}
 use mathlib.Core.Path.{_≡_}
 use Prim.Native.Nat.{ℕ}
@@ -12,18 +12,18 @@ use Rattle.game.specs.Game.{Game}
 pub record Island (ps is : List ℕ) (g : Game) : Type 0 where
   pub once : Once is
   pub inside : (u : ℕ) → u ∈ is → u ∈ ps
-  pub uncrossed : (u : ℕ) → u ∈ ps → (w : ℕ) → w ∈ g .watch u → has w is ≡ has u is
+  pub uncrossed : (u : ℕ) → u ∈ ps → (w : ℕ) → w ∈ g .watchers u → has w is ≡ has u is
 
 -- h is the game g by other numbers: number u of the numbers qs stands for bus f u
 pub record Renumbered (f : ℕ → ℕ) (qs : List ℕ) (g h : Game) : Type 0 where
-  pub watches : (u : ℕ) → u ∈ qs → (w : ℕ) → w ∈ qs → has w (h .watch u) ≡ has (f w) (g .watch (f u))
+  pub watching : (u : ℕ) → u ∈ qs → (w : ℕ) → w ∈ qs → has w (h .watchers u) ≡ has (f w) (g .watchers (f u))
   pub needs : (u : ℕ) → u ∈ qs → h .need u ≡ g .need (f u)
   pub weights : (u : ℕ) → u ∈ qs → h .weight u ≡ g .weight (f u)
 
 -- an island as a game of its own: its buses, in the order of the list, get the numbers 0, 1, ..
 abbrev pub takenOut : List ℕ → Game → Game
 takenOut is g = record {
-  watch = λ u. listBelow (length is) (λ w. has (at is w) (g .watch (at is u)));
+  watchers = λ u. listBelow (length is) (λ w. has (at is w) (g .watchers (at is u)));
   need = λ u. g .need (at is u);
   weight = λ u. g .weight (at is u);
 }

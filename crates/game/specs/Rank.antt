@@ -1,4 +1,4 @@
--- At which place a player stands: each place equally often. Assumes nothing.
+-- At which place a player stands: each place equally often.
 use mathlib.Core.Bool.{false}
 use mathlib.Core.List.{List, [], _∷_, _++_}
 use mathlib.Core.Path.{_≡_, ap, ap₂, _∙_}
@@ -7,7 +7,7 @@ use native.Mathlib.Nat.{sub-add-cancel, le-refl}
 use native.Mathlib.Omega.{arith}
 use lib.Dec.{eqb}
 use lib.ListN.{length, length-append}
-use Rattle.lists.specs.Lists.{tally, count}
+use Rattle.lists.specs.Lists.{indicator, count}
 use Rattle.lists.specs.Below.{sumBelow}
 use Rattle.lists.specs.Tests.{fails, eqb-self}
 use Rattle.game.specs.Orders.{factorial, before}
@@ -30,7 +30,7 @@ rank v [] h g = rw (eqb-self v) (omega arith)
 rank v (x ∷ b) h g =
     let m = suc (length b) in
     let g′ : ℕ → ℕ = λ j. suc j * g (suc j) + (m - j) * g j in
-    let n : eqb v x ≡ false = fails (eqb v x) (λ e. omega (arith, ap tally e)) in
+    let n : eqb v x ≡ false = fails (eqb v x) (λ e. omega (arith, ap indicator e)) in
     overOrders-cong (b ++ (v ∷ [])) (λ l o.
     let lb : length l ≡ m = omega (arith, length-order o, length-append b (v ∷ [])) in
     overInsertions-before x v n l (λ s. g (length s))

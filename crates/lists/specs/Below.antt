@@ -1,9 +1,9 @@
--- Tests, sums, counts, largest values and lists over the numbers 0, 1, .. below a bound. Recursion goes from the end: one step is one turn of a counting loop.
--- Definitions only. Assumes nothing.
+-- Tests, sums, counts, largest values and lists over the numbers 0, 1, .. below a bound. Recursion goes from the end: one step is one iteration of a counting loop.
+-- Definitions only.
 use mathlib.Core.Bool.{Bool, true, false, cond, _&&_, _||_}
 use mathlib.Core.List.{List, [], _∷_, _++_}
 use Prim.Native.Nat.{ℕ, zero, suc, _+_, max}
-use Rattle.lists.specs.Lists.{tally}
+use Rattle.lists.specs.Lists.{indicator}
 
 -- does every number below n pass?
 unfoldable pub allBelow : ℕ → (ℕ → Bool) → Bool
@@ -22,7 +22,7 @@ sumBelow (suc n) f = sumBelow n f + f n
 
 -- how many numbers below n pass
 abbrev pub countBelow : ℕ → (ℕ → Bool) → ℕ
-countBelow n p = sumBelow n (λ i. tally (p i))
+countBelow n p = sumBelow n (λ i. indicator (p i))
 
 -- the largest of f 0, f 1, .. up to f (n - 1); 0 where there is none
 unfoldable pub largestBelow : ℕ → (ℕ → ℕ) → ℕ

@@ -1,4 +1,4 @@
--- The vocabulary, computed. Assumes nothing.
+-- The vocabulary, computed.
 use mathlib.Core.Bool.{true, false}
 use mathlib.Core.List.{List, [], _∷_}
 use mathlib.Core.Path.{_≡_, refl}

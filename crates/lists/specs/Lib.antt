@@ -7,5 +7,7 @@ pub mod Sums
 pub mod Counts
 pub mod Places
 pub mod Loops
-pub mod Range
+pub mod SumsBelow
+pub mod JoinBelow
+pub mod ListBelow
 pub mod Writes

@@ -1,5 +1,5 @@
 -- Lists of numbers: sums and counts over their members, entries by place, and lists written into a slice.
--- Definitions only. Assumes nothing.
+-- Definitions only.
 use mathlib.Core.Bool.{Bool, cond}
 use mathlib.Core.List.{List, [], _∷_, _++_}
 use mathlib.Core.Path.{_≡_}
@@ -8,8 +8,8 @@ use lib.Dec.{eqb, ltb}
 use lib.ListN.{length, getD, take, drop}
 
 -- 1 where a test passes, 0 where it fails
-abbrev pub tally : Bool → ℕ
-tally b = cond b 1 0
+abbrev pub indicator : Bool → ℕ
+indicator b = cond b 1 0
 
 module _ {ℓ} {A : Type ℓ} where
   -- the sum of f x over the members x of a list
@@ -19,7 +19,7 @@ module _ {ℓ} {A : Type ℓ} where
 
   -- how many members of a list pass a test
   abbrev pub countBy : (A → Bool) → List A → ℕ
-  countBy p l = sumBy (λ x. tally (p x)) l
+  countBy p l = sumBy (λ x. indicator (p x)) l
 
 -- how often x stands in a list
 abbrev pub count : ℕ → List ℕ → ℕ

@@ -1,5 +1,4 @@
--- Laws for loops that count up to a bound: the start, a turn, the end, and what a test over the numbers below the bound says.
--- Assumes nothing.
+-- Laws for loops that count up to a bound: the start, an iteration, the end, and what follows from a test over the numbers below the bound.
 use mathlib.Core.Bool.{Bool, true, false, _&&_, _||_, true≢false}
 use mathlib.Core.List.{List, [], _∷_, _++_}
 use mathlib.Core.Logic.{_⊎_, ⊎-elim}
@@ -35,7 +34,7 @@ pub anyBelow-start : (p : ℕ → Bool) → anyBelow 0 p ≡ false
 unfolding anyBelow
 anyBelow-start p = refl
 
--- ---- a turn
+-- ---- an iteration
 
 pub allBelow-next : (n : ℕ) (p : ℕ → Bool) → allBelow (n + 1) p ≡ (allBelow n p && p n)
 unfolding allBelow
@@ -95,7 +94,7 @@ module _ (p : ℕ → Bool) where
   allBelow-by zero h = refl
   allBelow-by (suc n) h = and-both (allBelow n p) (p n) (allBelow-by n (λ i l. h i (omega arith))) (h n (omega arith))
 
-  -- a loop's turn passes; a turn fails; the loop is through
+  -- an iteration passes; an iteration fails; the loop is through
   pub allBelow-more : (i : ℕ) → allBelow i p ≡ true → p i ≡ true → allBelow (i + 1) p ≡ true
   allBelow-more i h k = allBelow-next i p ∙ and-both (allBelow i p) (p i) h k
 
@@ -120,7 +119,7 @@ module _ (p : ℕ → Bool) where
   anyBelow-by (suc n) i l h =
       ⊎-elim (λ e. or-right (anyBelow n p) (p n) (rw (← e) h)) (λ l. or-left (anyBelow n p) (p n) (anyBelow-by n i l h)) (last-or l)
 
-  -- a loop's turn does not pass
+  -- an iteration does not pass
   pub anyBelow-more : (i : ℕ) → anyBelow i p ≡ false → p i ≡ false → anyBelow (i + 1) p ≡ false
   anyBelow-more i h k = anyBelow-next i p ∙ rw (h, k)
 

@@ -1,4 +1,4 @@
--- Laws of a list's entries by their places. Assumes nothing.
+-- Laws of a list's entries by their places.
 use mathlib.Core.Bool.{cond}
 use mathlib.Core.List.{List, [], _∷_, _++_}
 use mathlib.Core.Path.{_≡_, refl, sym, ap, ap₂, _∙_}
@@ -10,7 +10,7 @@ use lib.Dec.{eqb, ltb, leb}
 use lib.ListN.{length, set, replicate, take, drop, length-take, length-drop, List·getD-append}
 use lib.Seq.{getD-set-same, getD-set-other, take-suc, getD-take, getD-drop, take-append-le, drop-append-le, getD-append-add, take-at, drop-at, take-nil, take-take, drop-drop}
 use borrow.Author.Tests.{eqb-true, eqb-false, ltb-true, ltb-false, leb-true, leb-false, lt-ltb, le-ltb, ne-eqb}
-use Rattle.lists.specs.Lists.{tally, countBy, count, _∈_, has, Once, at, part, Ascending}
+use Rattle.lists.specs.Lists.{indicator, countBy, count, _∈_, has, Once, at, part, Ascending}
 use Rattle.lists.specs.Tests.{split}
 use Rattle.lists.specs.Sums.{sumBy-cong, sumBy-add, sumBy-zero}
 use Rattle.lists.specs.Counts.{has-in, has-none, in-first, sumBy-cong-in}
@@ -103,7 +103,7 @@ at-in x [] h = absurd (omega arith)
 at-in x (y ∷ l) h =
     split (eqb x y)
     (λ e. (0, zero-lt-suc (length l), sym (eqb-true x y e)))
-    (λ e. let w = at-in x l (omega (arith, ap tally e)) in (suc (w .0), omega (arith, w .1), w .2))
+    (λ e. let w = at-in x l (omega (arith, ap indicator e)) in (suc (w .0), omega (arith, w .1), w .2))
 
 pub count-none : (x : ℕ) (l : List ℕ) → ((k : ℕ) → k < length l → at l k ≡ x → ⊥) → count x l ≡ 0
 count-none x l h =
@@ -117,11 +117,11 @@ unfolding at
 ascending-once [] h x = omega arith
 ascending-once (y ∷ l) h x =
     split (eqb x y)
-    (λ e. omega (arith, ap tally e, count-none x l (λ k g q. let z = h 0 (suc k) (zero-lt-suc k) (omega arith) in omega (arith, eqb-true x y e))))
-    (λ e. omega (arith, ap tally e, ascending-once l (λ j k g w. h (suc j) (suc k) (omega arith) (omega arith)) x))
+    (λ e. omega (arith, ap indicator e, count-none x l (λ k g q. let z = h 0 (suc k) (zero-lt-suc k) (omega arith) in omega (arith, eqb-true x y e))))
+    (λ e. omega (arith, ap indicator e, ascending-once l (λ j k g w. h (suc j) (suc k) (omega arith) (omega arith)) x))
 
 -- one number more is below i + 1 than below i: i itself
-under-next : (i y : ℕ) → tally (ltb y (i + 1)) ≡ tally (ltb y i) + tally (eqb i y)
+under-next : (i y : ℕ) → indicator (ltb y (i + 1)) ≡ indicator (ltb y i) + indicator (eqb i y)
 under-next i y =
     split (ltb y i)
     (λ a. let g = ltb-true y i a in rw (a, lt-ltb y (i + 1) (omega arith), ne-eqb i y (omega arith)))
@@ -130,7 +130,7 @@ under-next i y =
     (λ b. let d : i ≡ y → ⊥ = eqb-false i y b in rw (a, b, le-ltb y (i + 1) (omega (arith, d)))))
 
 pub count-under-next : (i : ℕ) (l : List ℕ) → countBy (λ y. ltb y (i + 1)) l ≡ countBy (λ y. ltb y i) l + count i l
-count-under-next i l = sumBy-cong (under-next i) l ∙ sumBy-add (λ y. tally (ltb y i)) (λ y. tally (eqb i y)) l
+count-under-next i l = sumBy-cong (under-next i) l ∙ sumBy-add (λ y. indicator (ltb y i)) (λ y. indicator (eqb i y)) l
 
 -- a list that ascends: its first entry is below the others, which ascend too
 module _ (y : ℕ) (l : List ℕ) (h : Ascending (y ∷ l)) where
@@ -144,10 +144,10 @@ module _ (y : ℕ) (l : List ℕ) (h : Ascending (y ∷ l)) where
 
   is-first : (x : ℕ) → x ∈ (y ∷ l) → x ≤ y → y ≡ x
   is-first x m g =
-      split (eqb x y) (λ e. sym (eqb-true x y e)) (λ e. absurd (let z = ascends-above x (omega (arith, ap tally e)) in omega arith))
+      split (eqb x y) (λ e. sym (eqb-true x y e)) (λ e. absurd (let z = ascends-above x (omega (arith, ap indicator e)) in omega arith))
 
   none-under : (x : ℕ) → x ≤ y → countBy (λ z. ltb z x) l ≡ 0
-  none-under x g = sumBy-cong-in l (λ z i. let w = ascends-above z i in ap tally (le-ltb z x (omega arith))) ∙ sumBy-zero l
+  none-under x g = sumBy-cong-in l (λ z i. let w = ascends-above z i in ap indicator (le-ltb z x (omega arith))) ∙ sumBy-zero l
 
 pub ascends-cons : (y : ℕ) (l : List ℕ) → ((z : ℕ) → z ∈ l → y < z) → Ascending l → Ascending (y ∷ l)
 unfolding at
@@ -165,7 +165,7 @@ ascending-same (x ∷ l) (y ∷ m) f g h =
     split (leb x y)
     (λ t. sym (is-first y m g x (omega (arith, h x, in-first x l)) (leb-true x y t)))
     (λ t. let z = leb-false x y t in is-first x l f y (omega (arith, h y, in-first y m)) (omega arith)) in
-    ap₂ _∷_ e (ascending-same l m (ascends-tail x l f) (ascends-tail y m g) (λ z. omega (arith, h z, ap (λ v. tally (eqb z v)) e)))
+    ap₂ _∷_ e (ascending-same l m (ascends-tail x l f) (ascends-tail y m g) (λ z. omega (arith, h z, ap (λ v. indicator (eqb z v)) e)))
 
 -- and a member stands behind just those below it
 pub ascending-place : (x : ℕ) (l : List ℕ) → Ascending l → x ∈ l
@@ -175,7 +175,7 @@ ascending-place x [] h m = absurd (omega arith)
 ascending-place x (y ∷ l) h m =
     split (ltb y x)
     (λ e. let g = ltb-true y x e in
-    let w = ascending-place x l (ascends-tail y l h) (omega (arith, ap tally (ne-eqb x y (omega arith)))) in
+    let w = ascending-place x l (ascends-tail y l h) (omega (arith, ap indicator (ne-eqb x y (omega arith)))) in
     let c = countBy (λ z. ltb z x) l in
     let q : 1 + c ≡ suc c = omega arith in
     rw e (omega (arith, w .0), ap (at (y ∷ l)) q ∙ w .1))

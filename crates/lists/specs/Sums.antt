@@ -1,4 +1,4 @@
--- Laws of sums over the members of a list. Assumes nothing.
+-- Laws of sums over the members of a list.
 use mathlib.Core.Bool.{Bool, true, false, cond, _&&_, _||_, true≢false}
 use mathlib.Core.List.{List, [], _∷_, _++_, map, flatMap}
 use mathlib.Core.Path.{_≡_, refl, sym, ap, _∙_, fun-ext}
@@ -6,35 +6,35 @@ use Prim.Native.Nat.{ℕ, _+_, _-_, _*_, _≤_, zero-le}
 use native.Mathlib.Nat.{zero-add, mul-zero, mul-one, add-le-add}
 use native.Mathlib.Omega.{arith}
 use lib.ListN.{length}
-use Rattle.lists.specs.Lists.{tally, sumBy}
+use Rattle.lists.specs.Lists.{indicator, sumBy}
 
 -- ---- one test
 
-pub tally-le : (b : Bool) → tally b ≤ 1
-tally-le true = omega arith
-tally-le false = omega arith
+pub indicator-le : (b : Bool) → indicator b ≤ 1
+indicator-le true = omega arith
+indicator-le false = omega arith
 
-pub tally-grows : (a b : Bool) → (a ≡ true → b ≡ true) → tally a ≤ tally b
-tally-grows true b h = rw (h refl) (omega arith)
-tally-grows false b h = zero-le
+pub indicator-grows : (a b : Bool) → (a ≡ true → b ≡ true) → indicator a ≤ indicator b
+indicator-grows true b h = rw (h refl) (omega arith)
+indicator-grows false b h = zero-le
 
-pub tally-and : (a b : Bool) → tally (a && b) ≡ tally a * tally b
-tally-and true b = omega arith
-tally-and false b = omega arith
+pub indicator-and : (a b : Bool) → indicator (a && b) ≡ indicator a * indicator b
+indicator-and true b = omega arith
+indicator-and false b = omega arith
 
-pub tally-or-le : (a b : Bool) → tally (a || b) ≤ tally a + tally b
-tally-or-le true b = omega arith
-tally-or-le false b = omega arith
+pub indicator-or-le : (a b : Bool) → indicator (a || b) ≤ indicator a + indicator b
+indicator-or-le true b = omega arith
+indicator-or-le false b = omega arith
 
 -- two tests of which only one passes
-pub tally-or : (a b : Bool) → (b ≡ true → a ≡ false) → tally (a || b) ≡ tally a + tally b
-tally-or true true h = absurd (true≢false (h refl))
-tally-or true false h = refl
-tally-or false b h = sym (zero-add (tally b))
+pub indicator-or : (a b : Bool) → (b ≡ true → a ≡ false) → indicator (a || b) ≡ indicator a + indicator b
+indicator-or true true h = absurd (true≢false (h refl))
+indicator-or true false h = refl
+indicator-or false b h = sym (zero-add (indicator b))
 
-pub cond-tally : (b : Bool) (x : ℕ) → cond b x 0 ≡ x * tally b
-cond-tally true x = omega arith
-cond-tally false x = omega arith
+pub cond-indicator : (b : Bool) (x : ℕ) → cond b x 0 ≡ x * indicator b
+cond-indicator true x = omega arith
+cond-indicator false x = omega arith
 
 -- ---- all members
 

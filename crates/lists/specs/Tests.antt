@@ -1,4 +1,4 @@
--- Laws of Boolean tests. Assumes nothing.
+-- Laws of Boolean tests.
 use mathlib.Core.Bool.{Bool, true, false, not, _&&_, _||_, true≢false}
 use mathlib.Core.Logic.{_⊎_, inl, inr}
 use mathlib.Core.Path.{_≡_, refl, sym, ap, _∙_}

@@ -1,4 +1,4 @@
--- Laws of a list written into a slice. Assumes nothing.
+-- Laws of a list written into a slice.
 use mathlib.Core.List.{List, [], _∷_, _++_, append-assoc}
 use mathlib.Core.Path.{_≡_, refl, sym, ap, ap₂, _∙_}
 use Prim.Native.Nat.{ℕ, _+_, _-_, _≤_, _<_}
@@ -13,7 +13,7 @@ use Rattle.lists.specs.Lists.{at, part, Tabled, put}
 use Rattle.lists.specs.Below.{mapBelow}
 use Rattle.lists.specs.Tests.{split}
 use Rattle.lists.specs.Places.{at-append, at-behind, at-drop, length-part, part-append, take-next}
-use Rattle.lists.specs.Range.{length-mapBelow, mapBelow-at}
+use Rattle.lists.specs.JoinBelow.{length-mapBelow, mapBelow-at}
 
 -- what is written at the front, and behind it the rest as it was
 pub put-front : (t vs : List ℕ) → put t 0 vs ≡ vs ++ drop (length vs) t

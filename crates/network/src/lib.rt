@@ -1,7 +1,7 @@
 // Networks: their limits, and what a line table has where. A network is a line table in a lent slice.
 ghost use mathlib.Core.Path.{_≡_};
-ghost use Rattle.tables.specs.Limits.{maxBuses, maxDegree, maxNeed, maxLines, maxEntries, maxBytes};
-ghost use Rattle.tables.specs.Holds.{within};
+ghost use Rattle.table_spec.specs.Limits.{maxBuses, maxDegree, maxNeed, maxLines, maxEntries, maxBytes};
+ghost use Rattle.table_spec.specs.Holds.{within};
 
 pub mod rows;
 pub mod table;
@@ -16,6 +16,12 @@ pub fn within(a: usize, b: usize, x: usize) -> bool
         return false;
     }
     x <= b
+}
+
+// The counts of a network: n and m.
+pub struct Counts {
+    pub buses: usize,
+    pub lines: usize,
 }
 
 // The limits by name, for callers that cannot cite the constants of `Network`.

@@ -3,7 +3,7 @@ ghost use mathlib.Core.Path.{_≡_};
 ghost use Prim.Native.Nat.{_+_, _≤_, _<_};
 ghost use lib.ListN.{length};
 ghost use Rattle.lists.specs.Lists.{at};
-ghost use Rattle.tables.specs.Layout.{rowAt};
+ghost use Rattle.table_spec.specs.Layout.{rowAt};
 
 // Entry i of a list.
 pub fn entry(list: &[u16], i: usize) -> usize
@@ -14,11 +14,11 @@ pub fn entry(list: &[u16], i: usize) -> usize
 }
 
 // The row of a bus.
-pub fn row_at<'a>(starts: &[u16], links: &'a [u16], bus: usize) -> &'a [u16]
-    requires { ⌜ (bus + 1 < length (now starts)) × (at (now starts) bus ≤ at (now starts) (bus + 1)) × (at (now starts) (bus + 1) ≤ length (now links)) ⌝ }
-    ensures { λ r. ⌜ now r ≡ rowAt (now (starts .entry)) (now (links .entry)) bus ⌝ }
+pub fn row_at<'a>(starts: &[u16], numbers: &'a [u16], bus: usize) -> &'a [u16]
+    requires { ⌜ (bus + 1 < length (now starts)) × (at (now starts) bus ≤ at (now starts) (bus + 1)) × (at (now starts) (bus + 1) ≤ length (now numbers)) ⌝ }
+    ensures { λ r. ⌜ now r ≡ rowAt (now (starts .entry)) (now (numbers .entry)) bus ⌝ }
 {
     let start = entry(starts, bus);
     let end = entry(starts, bus + 1);
-    &links[start..end]
+    &numbers[start..end]
 }

@@ -1,27 +1,27 @@
-// Line tables in lent slices: where a table has what. Row starts begin at h.
+// Line tables in lent slices: where a table has what. Row starts begin at `from`.
 ghost use mathlib.Core.Path.{_≡_};
 ghost use Prim.Native.Nat.{_+_, _≤_, _<_};
 ghost use lib.ListN.{length};
-ghost use Rattle.tables.specs.Limits.{maxBuses, maxLines};
-ghost use Rattle.tables.specs.Layout.{size, needs, need, starts, links, startsAt, row, rowStart, lines, tableEntries};
-ghost use Rattle.tables.specs.Holds.{Complete, Scorable, Holds};
+ghost use Rattle.table_spec.specs.Limits.{maxBuses, maxLines};
+ghost use Rattle.table_spec.specs.Layout.{busCount, needs, need, starts, neighbourNumbers, startsAt, row, rowStart, lines, tableEntries};
+ghost use Rattle.table_spec.specs.Holds.{Complete, Scorable, Holds};
 use super::rows::entry;
 use super::rows::row_at;
 
 // How many buses.
-pub fn size(table: &[u16]) -> usize
+pub fn bus_count(table: &[u16]) -> usize
     requires { ⌜ 1 ≤ length (now table) ⌝ }
-    ensures { λ r. ⌜ (r ≡ size (now (table .entry))) × (r < 65536) ⌝ }
+    ensures { λ r. ⌜ (r ≡ busCount (now (table .entry))) × (r < 65536) ⌝ }
 {
     entry(table, 0)
 }
 
 // The needs.
 pub fn needs(table: &[u16]) -> &[u16]
-    requires { ⌜ 1 + size (now table) ≤ length (now table) ⌝ }
+    requires { ⌜ 1 + busCount (now table) ≤ length (now table) ⌝ }
     ensures { λ r. ⌜ now r ≡ needs (now (table .entry)) ⌝ }
 {
-    let n = size(table);
+    let n = bus_count(table);
     &table[1..1 + n]
 }
 
@@ -30,41 +30,41 @@ pub fn starts_at(table: &[u16]) -> usize
     requires { ⌜ 1 ≤ length (now table) ⌝ }
     ensures { λ r. ⌜ (r ≡ startsAt (now (table .entry))) × (r ≤ 65536) ⌝ }
 {
-    1 + size(table)
+    1 + bus_count(table)
 }
 
 // The row starts.
-pub fn starts(table: &[u16], h: usize) -> &[u16]
-    requires { ⌜ Complete h (now table) ⌝ }
-    ensures { λ r. ⌜ now r ≡ starts h (now (table .entry)) ⌝ }
+pub fn starts(table: &[u16], from: usize) -> &[u16]
+    requires { ⌜ Complete from (now table) ⌝ }
+    ensures { λ r. ⌜ now r ≡ starts from (now (table .entry)) ⌝ }
 {
-    let n = size(table);
-    &table[h..h + n + 1]
+    let n = bus_count(table);
+    &table[from..from + n + 1]
 }
 
 // The neighbour numbers.
-pub fn links(table: &[u16], h: usize) -> &[u16]
-    requires { ⌜ Complete h (now table) ⌝ }
-    ensures { λ r. ⌜ now r ≡ links h (now (table .entry)) ⌝ }
+pub fn neighbour_numbers(table: &[u16], from: usize) -> &[u16]
+    requires { ⌜ Complete from (now table) ⌝ }
+    ensures { λ r. ⌜ now r ≡ neighbourNumbers from (now (table .entry)) ⌝ }
 {
-    let n = size(table);
-    let first = h + n + 1;
-    let end = first + entry(table, h + n);
+    let n = bus_count(table);
+    let first = from + n + 1;
+    let end = first + entry(table, from + n);
     &table[first..end]
 }
 
 // The neighbours of a bus.
 pub fn neighbours(table: &[u16], bus: usize) -> &[u16]
-    requires { ⌜ Scorable (now table) × (bus < size (now table)) ⌝ }
+    requires { ⌜ Scorable (now table) × (bus < busCount (now table)) ⌝ }
     ensures { λ r. ⌜ now r ≡ row (now (table .entry)) bus ⌝ }
 {
-    let h = starts_at(table);
-    row_at(starts(table, h), links(table, h), bus)
+    let from = starts_at(table);
+    row_at(starts(table, from), neighbour_numbers(table, from), bus)
 }
 
 // The need of a bus.
 pub fn need(table: &[u16], bus: usize) -> usize
-    requires { ⌜ Scorable (now table) × (bus < size (now table)) ⌝ }
+    requires { ⌜ Scorable (now table) × (bus < busCount (now table)) ⌝ }
     ensures { λ r. ⌜ r ≡ need (now (table .entry)) bus ⌝ }
 {
     entry(needs(table), bus)
@@ -72,11 +72,11 @@ pub fn need(table: &[u16], bus: usize) -> usize
 
 // Where the neighbours of a bus begin in the table.
 pub fn row_start(table: &[u16], bus: usize) -> usize
-    requires { ⌜ Scorable (now table) × (bus < size (now table)) ⌝ }
+    requires { ⌜ Scorable (now table) × (bus < busCount (now table)) ⌝ }
     ensures { λ r. ⌜ r ≡ rowStart (now (table .entry)) bus ⌝ }
 {
-    let h = starts_at(table);
-    h + size(table) + 1 + entry(starts(table, h), bus)
+    let from = starts_at(table);
+    from + bus_count(table) + 1 + entry(starts(table, from), bus)
 }
 
 // How many entries the table of n buses and m lines has.
@@ -92,5 +92,5 @@ pub fn lines(table: &[u16]) -> usize
     requires { ⌜ Holds (now table) ⌝ }
     ensures { λ r. ⌜ r ≡ lines (now (table .entry)) ⌝ }
 {
-    links(table, starts_at(table)).len() / 2
+    neighbour_numbers(table, starts_at(table)).len() / 2
 }

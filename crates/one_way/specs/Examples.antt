@@ -1,4 +1,4 @@
--- Three buses with one-way lines, computed. Assumes nothing.
+-- Three buses with one-way lines, computed.
 use mathlib.Core.List.{List, [], _∷_, map, flatMap}
 use mathlib.Core.Path.{_≡_, refl}
 use Prim.Native.Nat.{ℕ}
@@ -8,11 +8,11 @@ use Rattle.refusals.specs.Outcomes.{gives, refuses}
 use Rattle.fraction.specs.Divisors.{gcdOf, lcmOf, lcmAll}
 use Rattle.game.specs.Orders.{orders}
 use Rattle.game.specs.Game.{seen, value, gain, ownTerm, neighbourTerm}
-use Rattle.tables.specs.Layout.{rowAt, needs, starts, links, row}
-use Rattle.tables.specs.Holds.{within, complete, fairNeeds, neverFall, shortRows, tidy, tidyRow, tidyRows, soundRows}
-use Rattle.formula.specs.Formula.{numeratorOver}
-use Rattle.formula.specs.Tables.{largestDegree, divisorsOf, gameOf}
-use Rattle.shares.specs.Answers.{sharesOutcome, storedNumerators, numeratorsAfter, shareOutcome}
+use Rattle.table_spec.specs.Layout.{rowAt, needs, starts, neighbourNumbers, row}
+use Rattle.table_spec.specs.Holds.{within, complete, needsInRange, neverFall, shortRows, validEntry, validRow, validRows, soundRows}
+use Rattle.share_spec.specs.Formula.{numeratorOver}
+use Rattle.share_spec.specs.TableNetwork.{largestDegree, divisorsOf, gameOf}
+use Rattle.share_spec.specs.ShareOutcomes.{sharesOutcome, storedNumerators, numeratorsAfter, shareOutcome}
 use Rattle.one_way.specs.OneWay.{holdsOneWay, oneWay}
 
 -- records 0 1, 0 2 and 1 2, need k at bus 2: none leads into bus 0, one into bus 1, two into bus 2
@@ -26,10 +26,10 @@ feeder-shares :
     × (numeratorsAfter (oneWay (feeder 2)) (9 ∷ 9 ∷ 9 ∷ []) ≡ 10 ∷ 4 ∷ 4 ∷ [])
     × (map (shareOutcome (oneWay (feeder 1))) (0 ∷ 3 ∷ []) ≡ gives (11, 6) ∷ refuses 13 ∷ [])
     × (sharesOutcome (oneWay (feeder 0)) 4 ≡ refuses 11)
-unfolding feeder holdsOneWay storedNumerators numeratorOver ownTerm neighbourTerm divisorsOf largestDegree largestBelow lcmAll lcmOf gcdOf mapBelow joinBelow listBelow complete within fairNeeds soundRows neverFall shortRows tidyRows tidyRow tidy rowAt needs starts links row at allBelow
+unfolding feeder holdsOneWay storedNumerators numeratorOver ownTerm neighbourTerm divisorsOf largestDegree largestBelow lcmAll lcmOf gcdOf mapBelow joinBelow listBelow complete within needsInRange soundRows neverFall shortRows validRows validRow validEntry rowAt needs starts neighbourNumbers row at allBelow
 feeder-shares = (refl, refl, refl, refl, refl)
 
 -- the gains of each bus over the six orders are its numerators
 by-orders : map (λ v. sumBy (gain (gameOf (feeder 1)) (range 3) v) (orders (range 3))) (0 ∷ 1 ∷ 2 ∷ []) ≡ 11 ∷ 5 ∷ 2 ∷ []
-unfolding feeder gain value seen row rowAt needs starts links at mapBelow joinBelow flatMap
+unfolding feeder gain value seen row rowAt needs starts neighbourNumbers at mapBelow joinBelow flatMap
 by-orders = refl

@@ -1,17 +1,17 @@
 -- The network that a table of one-way lines holds: row i lists the buses that lead into bus i, which watch it. No mirrored entry is required.
--- Definitions only. Assumes nothing.
+-- Definitions only.
 use mathlib.Core.Bool.{Bool, _&&_}
 use mathlib.Core.List.{List}
 use Prim.Native.Nat.{ℕ}
-use Rattle.tables.specs.Layout.{size, needs, starts, last, links, startsAt, row}
-use Rattle.tables.specs.Holds.{complete, fairNeeds, soundRows}
-use Rattle.formula.specs.Network.{Network, turned}
-use Rattle.formula.specs.Tables.{tableNetwork}
+use Rattle.table_spec.specs.Layout.{busCount, needs, starts, last, neighbourNumbers, startsAt, row}
+use Rattle.table_spec.specs.Holds.{complete, needsInRange, soundRows}
+use Rattle.share_spec.specs.Network.{Network, converse}
+use Rattle.share_spec.specs.TableNetwork.{tableNetwork}
 
 -- a slice holds a network of one-way lines
 unfoldable pub holdsOneWay : List ℕ → Bool
-holdsOneWay t = complete (startsAt t) t && fairNeeds (needs t) && soundRows (size t) (starts (startsAt t) t) (links (startsAt t) t)
+holdsOneWay t = complete (startsAt t) t && needsInRange (needs t) && soundRows (busCount t) (starts (startsAt t) t) (neighbourNumbers (startsAt t) t)
 
 -- neighbour terms run over the buses that a bus leads into
 abbrev pub oneWay : List ℕ → Network
-oneWay t = tableNetwork t (holdsOneWay t) (last (startsAt t) t) (turned (size t) (row t))
+oneWay t = tableNetwork t (holdsOneWay t) (last (startsAt t) t) (converse (busCount t) (row t))

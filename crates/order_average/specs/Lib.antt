@@ -1,1 +1,2 @@
-pub mod Bounds
+-- How large the numbers of the comparison get.
+pub mod CountBounds

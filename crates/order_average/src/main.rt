@@ -2,8 +2,8 @@
 // `small_networks::average` goes through the orders and counts seen buses, and knows nothing of the scorer. So that the
 // comparison is seen to fail where it should, it is also made of shares by a formula that is wrong.
 ghost use Prim.Native.Nat.{_≤_, _<_};
-ghost use Rattle.small_networks.specs.Bounds.{most};
-ghost use Rattle.order_average.specs.Bounds.{counted};
+ghost use Rattle.small_networks.specs.SizeBounds.{most};
+ghost use Rattle.order_average.specs.CountBounds.{counted};
 use libc::STDOUT_FILENO;
 use scorer::AllShares;
 use scorer::OneShare;

@@ -1,4 +1,4 @@
--- What the stores of Read leave: a table, followed by the old rest. Assumes nothing.
+-- What the stores of Read leave: a table, followed by the old rest.
 use mathlib.Core.List.{List, _∷_, _++_}
 use mathlib.Core.Bool.{false}
 use mathlib.Core.Path.{_≡_, ap, subst, _∙_}
@@ -7,20 +7,20 @@ use native.Mathlib.Omega.{arith}
 use lib.ListN.{length}
 use Rattle.lists.specs.Lists.{put}
 use Rattle.lists.specs.Below.{joinBelow}
-use Rattle.lists.specs.Range.{joinBelow-same}
+use Rattle.lists.specs.JoinBelow.{joinBelow-same}
 use Rattle.lists.specs.Writes.{stored-list}
 use Rattle.refusals.specs.Outcomes.{Outcome}
 use Rattle.refusals.specs.Due.{Due}
-use Rattle.tables.specs.Layout.{laid, tableOf}
-use Rattle.tables.specs.Laid.{length-laid, laid-same}
-use Rattle.format.specs.declared.Counts.{Counts}
-use Rattle.format.specs.Sound.{ends-facts}
-use Rattle.rows.specs.Held.{held}
-use Rattle.records.specs.Records.{neighbours, repeated}
-use Rattle.records.specs.Filling.{SoundRecords, Filled}
-use Rattle.records.specs.Pairs.{rows-length}
-use Rattle.reading.specs.Read.{roomCauses}
-use Rattle.reading.specs.Stages.{RoomDue}
+use Rattle.table_spec.specs.Layout.{laid, tableOf}
+use Rattle.table_spec.specs.Laid.{length-laid, laid-same}
+use Rattle.network.specs.declared.Counts.{Counts}
+use Rattle.file_spec.specs.SoundSections.{ends-facts}
+use Rattle.row_builder.specs.RowsInSlots.{rowInSlots}
+use Rattle.file_spec.specs.Records.{neighbours, repeated}
+use Rattle.file_records.specs.RecordsInSlots.{SoundRecords, NeighboursInSlots}
+use Rattle.file_spec.specs.RecordPairs.{rows-length}
+use Rattle.file_spec.specs.ReadOutcome.{roomCauses}
+use Rattle.file_spec.specs.ReadStages.{RoomDue}
 
 -- rows that have two numbers for each of m lines take so many entries behind the needs
 pub laid-length : (n : ℕ) (rows : ℕ → List ℕ) (m : ℕ) → length (joinBelow n rows) ≡ 2 * m → length (laid n rows) ≡ n + 1 + 2 * m
@@ -33,19 +33,19 @@ unfolding tableOf
 built t q rows u v = v ∙ stored-list t 0 (length q ∷ q) u (omega arith) (laid (length q) rows) (omega arith)
 
 -- the rows of m sound records of buses with the needs q, no pair of which repeats, are in the slots
-module _ (q : List ℕ) {m : ℕ} {r slots counts : List ℕ} (g : SoundRecords (length q) m r) (once : repeated m r ≡ false) (w : Filled (length q) m r slots counts) where
-  each : (i : ℕ) → i < length q → held slots counts i ≡ neighbours (length q) m r i
+module _ (q : List ℕ) {m : ℕ} {r slots counts : List ℕ} (g : SoundRecords (length q) m r) (once : repeated m r ≡ false) (w : NeighboursInSlots (length q) m r slots counts) where
+  each : (i : ℕ) → i < length q → rowInSlots slots counts i ≡ neighbours (length q) m r i
   each i b = w .each i (omega (arith, g .buses))
 
   -- they have two numbers for each line
-  pub rows-numbers : length (joinBelow (length q) (held slots counts)) ≡ 2 * m
+  pub rows-numbers : length (joinBelow (length q) (rowInSlots slots counts)) ≡ 2 * m
   rows-numbers =
-      ap length (joinBelow-same (held slots counts) (neighbours (length q) m r) (length q) each)
+      ap length (joinBelow-same (rowInSlots slots counts) (neighbours (length q) m r) (length q) each)
       ∙ rows-length (length q) m r (ends-facts (length q) m r (g .sound)) once
 
   -- and to store them is to store what the records say
-  pub rows-stored : (t : List ℕ) {o : Outcome Counts} {t′ : List ℕ} → RoomDue q m (held slots counts) t o t′ → RoomDue q m (neighbours (length q) m r) t o t′
+  pub rows-stored : (t : List ℕ) {o : Outcome Counts} {t′ : List ℕ} → RoomDue q m (rowInSlots slots counts) t o t′ → RoomDue q m (neighbours (length q) m r) t o t′
   unfolding tableOf
   rows-stored t {o} {t′} d =
       subst (λ l. Due (roomCauses (length q) m (length t)) (record { buses = length q; lines = m }) (put t 0 ((length q ∷ q) ++ l)) t o t′)
-      (laid-same (held slots counts) (neighbours (length q) m r) (length q) each) d
+      (laid-same (rowInSlots slots counts) (neighbours (length q) m r) (length q) each) d

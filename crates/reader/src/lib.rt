@@ -5,27 +5,27 @@ ghost use Prim.Native.Nat.{_+_, _*_, _≤_};
 ghost use lib.ListN.{length};
 ghost use Rattle.lists.specs.Lists.{put};
 ghost use Rattle.lists.specs.Below.{joinBelow};
-ghost use Rattle.tables.specs.Limits.{maxBuses, maxLines};
-ghost use Rattle.file.specs.Answers.{readingSays};
-ghost use Rattle.rows.specs.Held.{held, Rows};
-ghost use Rattle.records.specs.Filling.{SoundRecords};
-ghost use Rattle.reading.specs.Read.{readOutcome, tableAfter, Recorded};
-ghost use Rattle.reading.specs.Stages.{RoomDue, LinesDue, RecordsDue};
-pub use file::Counts;
-pub use file::Reading;
-use file::judge;
-use file::needs;
-use file::records;
-use file::sound_ends;
+ghost use Rattle.table_spec.specs.Limits.{maxBuses, maxLines};
+ghost use Rattle.file_sections.specs.FileAnswers.{outcomeOfReading};
+ghost use Rattle.row_builder.specs.RowsInSlots.{rowInSlots, RowsInSlots};
+ghost use Rattle.file_records.specs.RecordsInSlots.{SoundRecords};
+ghost use Rattle.file_spec.specs.ReadOutcome.{readOutcome, tableAfter, Recorded};
+ghost use Rattle.file_spec.specs.ReadStages.{RoomDue, LinesDue, RecordsDue};
+use file_records::Inserted;
+use file_records::add_records;
+use file_records::degree_too_high;
+pub use file_sections::Counts;
+pub use file_sections::Reading;
+use file_sections::judge;
+use file_sections::needs;
+use file_sections::records;
+use file_sections::sound_ends;
 use network::Network;
 pub use network::Refusal;
 use network::table::entries;
-use records::Inserted;
-use records::crowded;
-use records::fill;
-use rows::blank_counts;
-use rows::blank_slots;
-use rows::store;
+use row_builder::store_layout;
+use row_builder::zero_counts;
+use row_builder::zero_slots;
 
 // Writes the bus count and the needs.
 fn store_needs(needs: &[u8], table: &mut [u16])
@@ -48,32 +48,32 @@ fn store_table(
     counts: &[u16; Network::BUSES],
     table: &mut [u16],
 ) -> Reading
-    requires { ⌜ (length (now needs) ≤ maxBuses) × (m ≤ maxLines) × Rows (now slots) (now counts) ⌝ }
-    requires { ⌜ length (joinBelow (length (now needs)) (held (now slots) (now counts))) ≡ 2 * m ⌝ }
-    ensures { λ r. ⌜ RoomDue (now (needs .entry)) m (held (now (slots .entry)) (now (counts .entry))) (now (table .entry)) (readingSays r) (now (table .exit)) ⌝ }
+    requires { ⌜ (length (now needs) ≤ maxBuses) × (m ≤ maxLines) × RowsInSlots (now slots) (now counts) ⌝ }
+    requires { ⌜ length (joinBelow (length (now needs)) (rowInSlots (now slots) (now counts))) ≡ 2 * m ⌝ }
+    ensures { λ r. ⌜ RoomDue (now (needs .entry)) m (rowInSlots (now (slots .entry)) (now (counts .entry))) (now (table .entry)) (outcomeOfReading r) (now (table .exit)) ⌝ }
 {
     let n = needs.len();
     if table.len() < entries(n, m) {
         return Reading::Refused(Refusal::TableTooShort);
     }
     store_needs(needs, table);
-    store(slots, counts, n, table, 1 + n);
+    store_layout(slots, counts, n, table, 1 + n);
     Reading::Accepted(Counts { buses: n, lines: m })
 }
 
 // Reads m records whose ends are sound, of buses with these needs.
 fn read_lines(needs: &[u8], section: &[u8], m: usize, table: &mut [u16]) -> Reading
     requires { ⌜ (4 * m ≤ length (now section)) × SoundRecords (length (now needs)) m (now section) ⌝ }
-    ensures { λ r. ⌜ LinesDue (now (needs .entry)) m (now (section .entry)) (now (table .entry)) (readingSays r) (now (table .exit)) ⌝ }
+    ensures { λ r. ⌜ LinesDue (now (needs .entry)) m (now (section .entry)) (now (table .entry)) (outcomeOfReading r) (now (table .exit)) ⌝ }
 {
     let n = needs.len();
-    if crowded(section, n, m) {
-        return Reading::Refused(Refusal::CrowdedBus);
+    if degree_too_high(section, n, m) {
+        return Reading::Refused(Refusal::DegreeTooHigh);
     }
-    let mut slots = blank_slots();
-    let mut counts = blank_counts();
-    match fill(section, n, m, &mut slots, &mut counts) {
-        Inserted::Full => Reading::Refused(Refusal::CrowdedBus),
+    let mut slots = zero_slots();
+    let mut counts = zero_counts();
+    match add_records(section, n, m, &mut slots, &mut counts) {
+        Inserted::Full => Reading::Refused(Refusal::DegreeTooHigh),
         Inserted::Present => Reading::Refused(Refusal::RepeatedLine),
         Inserted::Added => store_table(needs, m, &slots, &counts, table),
     }
@@ -82,7 +82,7 @@ fn read_lines(needs: &[u8], section: &[u8], m: usize, table: &mut [u16]) -> Read
 // Reads m records, of buses with these needs.
 fn read_records(needs: &[u8], section: &[u8], m: usize, table: &mut [u16]) -> Reading
     requires { ⌜ (length (now needs) ≤ maxBuses) × (m ≤ maxLines) × (4 * m ≤ length (now section)) ⌝ }
-    ensures { λ r. ⌜ RecordsDue (now (needs .entry)) m (now (section .entry)) (now (table .entry)) (readingSays r) (now (table .exit)) ⌝ }
+    ensures { λ r. ⌜ RecordsDue (now (needs .entry)) m (now (section .entry)) (now (table .entry)) (outcomeOfReading r) (now (table .exit)) ⌝ }
 {
     if !sound_ends(section, needs.len(), m) {
         return Reading::Refused(Refusal::LineEnds);
@@ -92,9 +92,9 @@ fn read_records(needs: &[u8], section: &[u8], m: usize, table: &mut [u16]) -> Re
 
 // Reads a file into a lent slice.
 pub fn read(file: &[u8], table: &mut [u16]) -> Reading
-    ensures answer { λ r. ⌜ readingSays r ≡ readOutcome (now (file .entry)) (length (now (table .entry))) ⌝ }
+    ensures answer { λ r. ⌜ outcomeOfReading r ≡ readOutcome (now (file .entry)) (length (now (table .entry))) ⌝ }
     ensures stored { λ _. ⌜ now (table .exit) ≡ tableAfter (now (file .entry)) (now (table .entry)) ⌝ }
-    ensures recorded { λ r. ⌜ Recorded (now (file .entry)) (now (table .entry)) (readingSays r) (now (table .exit)) ⌝ }
+    ensures recorded { λ r. ⌜ Recorded (now (file .entry)) (now (table .entry)) (outcomeOfReading r) (now (table .exit)) ⌝ }
 {
     match judge(file) {
         Reading::Refused(cause) => Reading::Refused(cause),

@@ -1,4 +1,4 @@
--- Laws of the first cause. Assumes nothing.
+-- Laws of the first cause.
 use mathlib.Core.Bool.{Bool, true, false, cond, _||_, true≢false}
 use mathlib.Core.List.{List, [], _∷_, _++_}
 use mathlib.Core.Path.{_≡_, refl, sym, ap, _∙_}

@@ -1,4 +1,4 @@
--- How a call's causes decide, one after another: what is answered, and what lent entries hold after it. Assumes nothing.
+-- How a call's causes decide, one after another: what is answered, and what lent entries hold after it.
 use mathlib.Core.Bool.{Bool, true, false}
 use mathlib.Core.List.{List, [], _∷_, _++_}
 use mathlib.Core.Path.{_≡_, refl, sym, ap, _∙_}

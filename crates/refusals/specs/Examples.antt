@@ -1,4 +1,4 @@
--- The first cause decides, computed. Assumes nothing.
+-- The first cause decides, computed.
 use mathlib.Core.Bool.{true, false}
 use mathlib.Core.List.{[], _∷_}
 use mathlib.Core.Path.{_≡_, refl}

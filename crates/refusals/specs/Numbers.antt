@@ -1,8 +1,8 @@
--- 01's number of each refusal: 1 to 9 because of the input, 10 to 14 because of the state lent.
--- Definitions only. Assumes nothing.
+-- The scope's number of each refusal: 1 to 9 because of the input, 10 to 14 because of the state lent.
+-- Definitions only.
 use Prim.Native.Nat.{ℕ}
 use Rattle.refusals.specs.declared.Refusal.{Refusal}
-use Rattle.refusals.specs.declared.Refusal.the-variants.{FileTooShort, BusCount, Need, LineCount, FileTooLong, LineEnds, CrowdedBus, RepeatedLine, NoDenominator, TableTooShort, NoNetwork, NumeratorsTooShort, NoSuchBus, TextTooShort}
+use Rattle.refusals.specs.declared.Refusal.the-variants.{FileTooShort, BusCount, Need, LineCount, FileTooLong, LineEnds, DegreeTooHigh, RepeatedLine, NoDenominator, TableTooShort, NoNetwork, NumeratorsTooShort, NoSuchBus, TextTooShort}
 
 abbrev pub numberOf : Refusal → ℕ
 numberOf FileTooShort = 1
@@ -11,7 +11,7 @@ numberOf Need = 3
 numberOf LineCount = 4
 numberOf FileTooLong = 5
 numberOf LineEnds = 6
-numberOf CrowdedBus = 7
+numberOf DegreeTooHigh = 7
 numberOf RepeatedLine = 8
 numberOf NoDenominator = 9
 numberOf TableTooShort = 10

@@ -1,5 +1,5 @@
--- What a call gives: its values, or the number of the first cause that holds, in the order in which 01 lists a call's causes.
--- Definitions only. Assumes nothing.
+-- What a call gives: its values, or the number of the first cause that holds, in the order in which the scope lists a call's causes.
+-- Definitions only.
 use mathlib.Core.Bool.{Bool, cond}
 use mathlib.Core.List.{List, [], _∷_}
 use Prim.Native.Nat.{ℕ}

@@ -1,4 +1,4 @@
-// Why a call is refused: a named case for each cause of 01's two lists, and its number there.
+// Why a call is refused: a named case for each cause of the scope's two lists, and its number there.
 ghost use mathlib.Core.Path.{_≡_};
 ghost use Rattle.refusals.specs.Numbers.{numberOf};
 
@@ -16,7 +16,7 @@ pub enum Refusal {
     // A record names a bus that the network does not have, or one bus twice.
     LineEnds,
     // A bus stands in more records than it may have lines.
-    CrowdedBus,
+    DegreeTooHigh,
     // Two records name the same pair, either way round.
     RepeatedLine,
     // Cancel is given denominator 0.
@@ -45,7 +45,7 @@ impl Refusal {
             Refusal::LineCount => 4,
             Refusal::FileTooLong => 5,
             Refusal::LineEnds => 6,
-            Refusal::CrowdedBus => 7,
+            Refusal::DegreeTooHigh => 7,
             Refusal::RepeatedLine => 8,
             Refusal::NoDenominator => 9,
             Refusal::TableTooShort => 10,

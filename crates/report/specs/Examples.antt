@@ -1,4 +1,4 @@
--- What is printed for 01's Path and for files that are refused, computed byte by byte. Assumes nothing.
+-- What is printed for the scope's Path and for files that are refused, computed byte by byte.
 use mathlib.Core.List.{List, [], _∷_, _++_}
 use mathlib.Core.Path.{_≡_, refl}
 use Prim.Native.Nat.{ℕ}
@@ -7,29 +7,29 @@ use Rattle.lists.specs.Below.{allBelow, anyBelow, largestBelow, sumBelow, joinB
 use Rattle.text.specs.Text.{decimal, filled}
 use Rattle.fraction.specs.Divisors.{gcdOf, lcmOf, lcmAll}
 use Rattle.game.specs.Game.{ownTerm, neighbourTerm}
-use Rattle.tables.specs.Layout.{rowAt, laid, needs, starts, links, row, lines, tableOf}
-use Rattle.tables.specs.Holds.{within, fairNeeds}
-use Rattle.formula.specs.Formula.{numeratorOver}
-use Rattle.formula.specs.Tables.{largestDegree, divisorsOf}
-use Rattle.format.specs.Bytes.{wordAt, needBytes, records}
-use Rattle.format.specs.Sections.{endsBefore, goesOn, twoBuses, soundEnds}
-use Rattle.records.specs.Records.{names, joins, joined, neighbours, crowded, repeats, repeated}
-use Rattle.reading.specs.Read.{fileTable}
+use Rattle.table_spec.specs.Layout.{rowAt, laid, needs, starts, neighbourNumbers, row, lines, tableOf}
+use Rattle.table_spec.specs.Holds.{within, needsInRange}
+use Rattle.share_spec.specs.Formula.{numeratorOver}
+use Rattle.share_spec.specs.TableNetwork.{largestDegree, divisorsOf}
+use Rattle.file_spec.specs.FileBytes.{wordAt, needBytes, records}
+use Rattle.file_spec.specs.Sections.{endsBefore, goesOn, twoBuses, soundEnds}
+use Rattle.file_spec.specs.Records.{names, joins, joined, neighbours, degreeTooHigh, repeats, repeated}
+use Rattle.file_spec.specs.ReadOutcome.{fileTable}
 use Rattle.report.specs.Report.{printed}
 
 path : List ℕ
 path = 3 ∷ 0 ∷ 1 ∷ 1 ∷ 1 ∷ 2 ∷ 0 ∷ 0 ∷ 0 ∷ 1 ∷ 0 ∷ 1 ∷ 0 ∷ 2 ∷ 0 ∷ []
 
--- 01's four lines
+-- the scope's four lines
 path-printed :
     printed path
     ≡ 98 ∷ 117 ∷ 115 ∷ 101 ∷ 115 ∷ 32 ∷ 51 ∷ 32 ∷ 108 ∷ 105 ∷ 110 ∷ 101 ∷ 115 ∷ 32 ∷ 50 ∷ 32 ∷ 111 ∷ 118 ∷ 101 ∷ 114 ∷ 32 ∷ 54 ∷ 10 ∷ 48 ∷ 32 ∷ 49 ∷ 32 ∷ 49 ∷ 32 ∷ 53 ∷ 32 ∷ 53 ∷ 47 ∷ 54 ∷ 10 ∷ 49 ∷ 32 ∷ 49 ∷ 32 ∷ 50 ∷ 32 ∷ 56 ∷ 32 ∷ 52 ∷ 47 ∷ 51 ∷ 10 ∷ 50 ∷ 32 ∷ 49 ∷ 32 ∷ 49 ∷ 32 ∷ 53 ∷ 32 ∷ 53 ∷ 47 ∷ 54 ∷ 10 ∷ []
-unfolding needBytes records wordAt endsBefore goesOn within fairNeeds allBelow anyBelow sumBelow soundEnds twoBuses crowded names repeated repeats joined joins path fileTable tableOf laid neighbours listBelow joinBelow mapBelow filled decimal numeratorOver ownTerm neighbourTerm divisorsOf largestDegree largestBelow lcmAll lcmOf gcdOf lines rowAt needs starts links row at
+unfolding needBytes records wordAt endsBefore goesOn within needsInRange allBelow anyBelow sumBelow soundEnds twoBuses degreeTooHigh names repeated repeats joined joins path fileTable tableOf laid neighbours listBelow joinBelow mapBelow filled decimal numeratorOver ownTerm neighbourTerm divisorsOf largestDegree largestBelow lcmAll lcmOf gcdOf lines rowAt needs starts neighbourNumbers row at
 path-printed = refl
 
 -- `refused 1` for an empty file, `refused 5` for Path with one byte more
 refused :
     (printed [] ≡ 114 ∷ 101 ∷ 102 ∷ 117 ∷ 115 ∷ 101 ∷ 100 ∷ 32 ∷ 49 ∷ 10 ∷ [])
     × (printed (path ++ (0 ∷ [])) ≡ 114 ∷ 101 ∷ 102 ∷ 117 ∷ 115 ∷ 101 ∷ 100 ∷ 32 ∷ 53 ∷ 10 ∷ [])
-unfolding needBytes records wordAt endsBefore goesOn within fairNeeds allBelow anyBelow sumBelow soundEnds twoBuses crowded names repeated repeats joined joins path fileTable tableOf laid neighbours listBelow joinBelow mapBelow filled decimal numeratorOver ownTerm neighbourTerm divisorsOf largestDegree largestBelow lcmAll lcmOf gcdOf lines rowAt needs starts links row at
+unfolding needBytes records wordAt endsBefore goesOn within needsInRange allBelow anyBelow sumBelow soundEnds twoBuses degreeTooHigh names repeated repeats joined joins path fileTable tableOf laid neighbours listBelow joinBelow mapBelow filled decimal numeratorOver ownTerm neighbourTerm divisorsOf largestDegree largestBelow lcmAll lcmOf gcdOf lines rowAt needs starts neighbourNumbers row at
 refused = (refl, refl)

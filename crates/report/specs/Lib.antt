@@ -2,4 +2,4 @@
 pub mod Report
 pub mod Examples
 pub mod Printing
-pub mod Front
+pub mod PrintedFront

@@ -1,12 +1,12 @@
--- What the sheet program prints for a file. Definitions only. Assumes nothing.
+-- What the sheet program prints for a file. Definitions only.
 use mathlib.Core.List.{List, [], _∷_}
 use Prim.Native.Nat.{ℕ}
 use Rattle.refusals.specs.Outcomes.{Outcome, gives, refuses}
 use Rattle.text.specs.Text.{filled}
-use Rattle.tables.specs.Limits.{maxEntries}
-use Rattle.reading.specs.Read.{readOutcome, fileTable}
+use Rattle.table_spec.specs.Limits.{maxEntries}
+use Rattle.file_spec.specs.ReadOutcome.{readOutcome, fileTable}
 use Rattle.two_way.specs.TwoWay.{networkOf}
-use Rattle.whole_sheet.specs.Whole.{wholeSheet}
+use Rattle.whole_sheet.specs.WholeSheet.{wholeSheet}
 
 -- `refused #`, ended by byte 10
 abbrev pub refusedForm : List ℕ

@@ -4,13 +4,13 @@ ghost use Prim.Native.Nat.{_≤_};
 ghost use lib.ListN.{length};
 ghost use Rattle.lists.specs.Lists.{put};
 ghost use Rattle.refusals.specs.Numbers.{numberOf};
-ghost use Rattle.sheet.specs.Work.{longestLine};
+ghost use Rattle.sheet.specs.LineRoom.{longestLine};
 ghost use Rattle.report.specs.Report.{refusedLine, printed};
 use network::Network;
 use reader::Reading;
 use reader::Refusal;
 use reader::read;
-use text::fill;
+use text::fill_template;
 pub use whole_sheet::LONGEST_SHEET;
 use whole_sheet::write_sheet;
 
@@ -20,7 +20,7 @@ fn write_refusal(cause: Refusal, out: &mut [u8]) -> usize
     ensures { λ r. ⌜ (r ≡ length (refusedLine (numberOf cause))) × (r ≤ longestLine) ⌝ }
     ensures { λ _. ⌜ now (out .exit) ≡ put (now (out .entry)) 0 (refusedLine (numberOf cause)) ⌝ }
 {
-    fill(b"refused #\n", &[cause.number() as u64], out, 0)
+    fill_template(b"refused #\n", &[cause.number() as u64], out, 0)
 }
 
 // Writes what the program prints for a file at the front of a buffer, and gives its byte count.

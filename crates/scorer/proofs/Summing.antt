@@ -1,4 +1,4 @@
--- How the code sums a numerator: the own term is what is left of L, and then term by term along the row. Assumes nothing.
+-- How the code sums a numerator: the own term is what is left of L, and then term by term along the row.
 use mathlib.Core.List.{List}
 use mathlib.Core.Path.{_≡_, ap, _∙_}
 use Prim.Native.Nat.{ℕ, _+_, _-_, _*_, _≤_, _<_}
@@ -11,14 +11,14 @@ use Rattle.lists.specs.Loops.{sumBy-take-next}
 use Rattle.lists.specs.Places.{in-at}
 use Rattle.lists.specs.Sums.{sumBy-const, sumBy-le}
 use Rattle.game.specs.Game.{own, neighbour}
-use Rattle.tables.specs.Limits.{maxDegree}
-use Rattle.tables.specs.Layout.{size, row, need, degree}
-use Rattle.tables.specs.Holds.{Scorable}
-use Rattle.tables.specs.Rows.{tidy-below}
-use Rattle.formula.specs.Tables.{gameOf, maxDenominator, Over}
-use Rattle.formula.specs.Formula.{numeratorOver}
-use Rattle.formula.specs.Terms.{term-most, own-rest}
-use Rattle.formula.specs.Played.{tidy, degree-few, term-whole}
+use Rattle.table_spec.specs.Limits.{maxDegree}
+use Rattle.table_spec.specs.Layout.{busCount, row, need, degree}
+use Rattle.table_spec.specs.Holds.{Scorable}
+use Rattle.table_spec.specs.Rows.{valid-below}
+use Rattle.share_spec.specs.TableNetwork.{gameOf, maxDenominator, Over}
+use Rattle.share_spec.specs.Formula.{numeratorOver}
+use Rattle.share_spec.specs.TermBounds.{term-le, own-rest}
+use Rattle.share_spec.specs.TableGame.{row-valid, degree-le, term-whole}
 use Rattle.two_way.specs.TwoWay.{networkOf}
 
 -- the own term, and the terms of the first k neighbours
@@ -29,11 +29,11 @@ summed t L bus k = own (gameOf t) L bus + sumBy (neighbour (gameOf t) L) (take k
 abbrev pub most : ℕ
 most = (2 + maxDegree) * maxDenominator
 
-neighbour-most : (t : List ℕ) (L u : ℕ) → neighbour (gameOf t) L u ≤ L
-neighbour-most t L u = omega (arith, term-most (need t u) (degree t u) L)
+neighbour-le : (t : List ℕ) (L u : ℕ) → neighbour (gameOf t) L u ≤ L
+neighbour-le t L u = omega (arith, term-le (need t u) (degree t u) L)
 
 -- the row r of a bus, as code has it
-module _ {t : List ℕ} (w : Scorable t) {L : ℕ} (o : Over t L) {bus : ℕ} {r : List ℕ} (b : bus < size t) (er : r ≡ row t bus) where
+module _ {t : List ℕ} (w : Scorable t) {L : ℕ} (o : Over t L) {bus : ℕ} {r : List ℕ} (b : bus < busCount t) (er : r ≡ row t bus) where
   all : own (gameOf t) L bus + length r * neighbour (gameOf t) L bus ≡ L
   all = rw er (own-rest (gameOf t) L bus (term-whole w o bus b) ∙ one-mul L)
 
@@ -55,8 +55,8 @@ module _ {t : List ℕ} (w : Scorable t) {L : ℕ} (o : Over t L) {bus : ℕ} {r
 
   -- neighbour k is bus j
   module _ {k j : ℕ} (l : k < length r) (ej : j ≡ at r k) where
-    pub neighbour-in : j < size t
-    neighbour-in = tidy-below (tidy w bus b) j (rw (ej, er) (in-at (row t bus) k (rw er at l)))
+    pub neighbour-in : j < busCount t
+    neighbour-in = valid-below (row-valid w bus b) j (rw (ej, er) (in-at (row t bus) k (rw er at l)))
 
     -- and x what it gives
     module _ {sum x : ℕ} (e : sum ≡ summed t L bus k) (ex : x ≡ neighbour (gameOf t) L j) where
@@ -73,11 +73,11 @@ module _ {t : List ℕ} (w : Scorable t) {L : ℕ} (o : Over t L) {bus : ℕ} {r
             arith,
             e,
             ex,
-            neighbour-most t L j,
-            sumBy-le (neighbour-most t L) first,
+            neighbour-le t L j,
+            sumBy-le (neighbour-le t L) first,
             sumBy-const L first,
-            o .few,
+            o .bounded,
             all,
             mul-le-mul {n₁ = length first} {m₁ = L} {n₂ = maxDegree} {m₂ = maxDenominator}
-                (omega (arith, length-take-le k (row t bus) (omega (arith, ap length er)), ap length er, degree-few w bus b)) (o .few),
+                (omega (arith, length-take-le k (row t bus) (omega (arith, ap length er)), ap length er, degree-le w bus b)) (o .bounded),
           )

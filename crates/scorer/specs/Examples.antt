@@ -1,4 +1,4 @@
--- Answers of Shares and Share, computed. Assumes nothing.
+-- Answers of Shares and Share, computed.
 use mathlib.Core.List.{List, [], _∷_, map}
 use mathlib.Core.Path.{_≡_, refl}
 use Prim.Native.Nat.{ℕ}
@@ -8,14 +8,14 @@ use Rattle.lists.specs.Below.{allBelow, largestBelow, joinBelow, mapBelow}
 use Rattle.refusals.specs.Outcomes.{Outcome, gives, refuses}
 use Rattle.fraction.specs.Divisors.{gcdOf, lcmOf, lcmAll}
 use Rattle.game.specs.Game.{ownTerm, neighbourTerm}
-use Rattle.tables.specs.Layout.{rowAt, needs, starts, links, row}
-use Rattle.tables.specs.Holds.{within, complete, fairNeeds, neverFall, shortRows, tidy, tidyRow, tidyRows, soundRows, mirrored, twoWay, holds}
-use Rattle.tables.specs.Examples.{path}
-use Rattle.formula.specs.Tables.{gameOf, largestDegree, divisorsOf}
-use Rattle.formula.specs.Formula.{numeratorOver}
+use Rattle.table_spec.specs.Layout.{rowAt, needs, starts, neighbourNumbers, row}
+use Rattle.table_spec.specs.Holds.{within, complete, needsInRange, neverFall, shortRows, validEntry, validRow, validRows, soundRows, mirrored, twoWay, holds}
+use Rattle.table_spec.specs.Examples.{path}
+use Rattle.share_spec.specs.TableNetwork.{gameOf, largestDegree, divisorsOf}
+use Rattle.share_spec.specs.Formula.{numeratorOver}
 use Rattle.two_way.specs.TwoWay.{networkOf}
-use Rattle.shares.specs.Answers.{sharesOutcome, storedNumerators, numeratorsAfter, shareOutcome}
-use Rattle.scorer.specs.Work.{termTo}
+use Rattle.share_spec.specs.ShareOutcomes.{sharesOutcome, storedNumerators, numeratorsAfter, shareOutcome}
+use Rattle.scorer.specs.ScorerWork.{termTo}
 
 -- over 6: bus 0 of Path keeps 3 and gives 3 to bus 1, which keeps 2, 4 or 6 by its need and gives the rest to both ends
 given :
@@ -23,7 +23,7 @@ given :
     × (mapBelow 3 (termTo (gameOf (path 1)) 6 1) ≡ 2 ∷ 2 ∷ 2 ∷ [])
     × (mapBelow 3 (termTo (gameOf (path 2)) 6 1) ≡ 1 ∷ 4 ∷ 1 ∷ [])
     × (mapBelow 3 (termTo (gameOf (path 3)) 6 1) ≡ 0 ∷ 6 ∷ 0 ∷ [])
-unfolding path termTo ownTerm neighbourTerm mapBelow joinBelow rowAt needs starts links row at
+unfolding path termTo ownTerm neighbourTerm mapBelow joinBelow rowAt needs starts neighbourNumbers row at
 given = (refl, refl, refl, refl)
 
 -- a table, entries lent, the answer of Shares, and the entries after it
@@ -51,11 +51,11 @@ cases =
     ∷ []
 
 all-shares : map (λ c. let N = networkOf (c .table) in let x = c .lent in case (c .table) x (sharesOutcome N (length x)) (numeratorsAfter N x)) cases ≡ cases
-unfolding cases storedNumerators numeratorOver ownTerm neighbourTerm divisorsOf largestDegree largestBelow lcmAll lcmOf gcdOf mapBelow joinBelow holds twoWay complete within fairNeeds soundRows neverFall shortRows tidyRows tidyRow tidy mirrored rowAt needs starts links row at allBelow
+unfolding cases storedNumerators numeratorOver ownTerm neighbourTerm divisorsOf largestDegree largestBelow lcmAll lcmOf gcdOf mapBelow joinBelow holds twoWay complete within needsInRange soundRows neverFall shortRows validRows validRow validEntry mirrored rowAt needs starts neighbourNumbers row at allBelow
 all-shares = refl
 
 one-share :
     (map (shareOutcome (networkOf (path 3))) (0 ∷ 1 ∷ 2 ∷ 3 ∷ []) ≡ gives (3, 6) ∷ gives (12, 6) ∷ gives (3, 6) ∷ refuses 13 ∷ [])
     × (map (shareOutcome (networkOf (path 0))) (0 ∷ 3 ∷ []) ≡ refuses 11 ∷ refuses 11 ∷ [])
-unfolding path numeratorOver ownTerm neighbourTerm divisorsOf largestDegree largestBelow lcmAll lcmOf gcdOf mapBelow joinBelow holds twoWay complete within fairNeeds soundRows neverFall shortRows tidyRows tidyRow tidy mirrored rowAt needs starts links row at allBelow
+unfolding path numeratorOver ownTerm neighbourTerm divisorsOf largestDegree largestBelow lcmAll lcmOf gcdOf mapBelow joinBelow holds twoWay complete within needsInRange soundRows neverFall shortRows validRows validRow validEntry mirrored rowAt needs starts neighbourNumbers row at allBelow
 one-share = (refl, refl)

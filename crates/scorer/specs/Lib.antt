@@ -1,5 +1,5 @@
 -- What answers of Shares and Share stand for, and computed examples; what the scorer's functions promise one another; and that entries beyond the table never matter.
-pub mod Answers
-pub mod Work
+pub mod ShareAnswers
+pub mod ScorerWork
 pub mod Examples
-pub mod Beyond
+pub mod BeyondShares

@@ -4,30 +4,30 @@ ghost use Prim.Native.Nat.{_≤_, _<_};
 ghost use lib.ListN.{length};
 ghost use Rattle.lists.specs.Lists.{Tabled, put};
 ghost use Rattle.lists.specs.Below.{mapBelow, range};
-ghost use Rattle.tables.specs.Layout.{size};
-ghost use Rattle.tables.specs.Holds.{Scorable, Holds};
+ghost use Rattle.table_spec.specs.Layout.{busCount};
+ghost use Rattle.table_spec.specs.Holds.{Scorable, Holds};
 ghost use Rattle.game.specs.Game.{neighbour, numerator as formula};
-ghost use Rattle.formula.specs.Network.{denominator};
-ghost use Rattle.formula.specs.Tables.{gameOf, Over};
-ghost use Rattle.formula.specs.Formula.{numeratorOver, numerator};
+ghost use Rattle.share_spec.specs.Network.{denominator};
+ghost use Rattle.share_spec.specs.TableNetwork.{gameOf, Over};
+ghost use Rattle.share_spec.specs.Formula.{numeratorOver, numerator};
 ghost use Rattle.two_way.specs.TwoWay.{networkOf};
-ghost use Rattle.terms.specs.Unit.{unit};
-ghost use Rattle.terms.specs.Added.{Added};
-ghost use Rattle.shares.specs.Answers.{sharesOutcome, numeratorsAfter, AllFair, shareOutcome, OneFair};
-ghost use Rattle.scorer.specs.Answers.{sharesSays, shareSays};
-ghost use Rattle.scorer.specs.Work.{degrees, termTo, Room};
+ghost use Rattle.share_terms.specs.Unit.{unit};
+ghost use Rattle.share_terms.specs.Added.{Added};
+ghost use Rattle.share_spec.specs.ShareOutcomes.{sharesOutcome, numeratorsAfter, AllFair, shareOutcome, OneFair};
+ghost use Rattle.scorer.specs.ShareAnswers.{outcomeOfShares, outcomeOfShare};
+ghost use Rattle.scorer.specs.ScorerWork.{degrees, termTo, Room};
 use network::Network;
 pub use network::Refusal;
 use network::rows::entry;
+use network::table::bus_count;
 use network::table::need;
 use network::table::neighbours;
-use network::table::size;
-use table_test::holds;
-use terms::clear;
-pub use terms::denominator;
-use terms::give;
-use terms::term;
-use terms::unit;
+use share_terms::clear;
+pub use share_terms::denominator;
+use share_terms::give;
+use share_terms::term;
+use share_terms::unit;
+use table_check::holds;
 
 // The number that all numerators are over, or why there are none.
 pub enum AllShares {
@@ -65,8 +65,8 @@ fn units(over: u64) -> [u64; DEGREES]
 
 // Adds the terms of a bus: to its own entry what is left of its L, and to the entry of each bus in its row what it gives.
 fn add_terms(table: &[u16], over: u64, units: &[u64; DEGREES], bus: usize, numerators: &mut [u64])
-    requires { ⌜ Scorable (now table) × (bus < size (now table)) × Over (now table) over ⌝ }
-    requires { ⌜ Tabled degrees (unit over) (now units) × Room (size (now table)) over (now numerators) ⌝ }
+    requires { ⌜ Scorable (now table) × (bus < busCount (now table)) × Over (now table) over ⌝ }
+    requires { ⌜ Tabled degrees (unit over) (now units) × Room (busCount (now table)) over (now numerators) ⌝ }
     ensures { λ _. ⌜ Added (termTo (gameOf (now (table .entry))) over bus) (now (numerators .entry)) (now (numerators .exit)) ⌝ }
 {
     let row = neighbours(table, bus);
@@ -78,10 +78,10 @@ fn add_terms(table: &[u16], over: u64, units: &[u64; DEGREES], bus: usize, numer
 
 // Stores the numerators of all buses, whichever way the table's lines run, over any L that makes their terms whole.
 pub fn score_over(table: &[u16], over: u64, numerators: &mut [u64])
-    requires { ⌜ Scorable (now table) × (size (now table) ≤ length (now numerators)) × Over (now table) over ⌝ }
-    ensures { λ _. ⌜ now (numerators .exit) ≡ put (now (numerators .entry)) 0 (mapBelow (size (now (table .entry))) (λ v. formula (gameOf (now (table .entry))) (range (size (now (table .entry)))) v over)) ⌝ }
+    requires { ⌜ Scorable (now table) × (busCount (now table) ≤ length (now numerators)) × Over (now table) over ⌝ }
+    ensures { λ _. ⌜ now (numerators .exit) ≡ put (now (numerators .entry)) 0 (mapBelow (busCount (now (table .entry))) (λ v. formula (gameOf (now (table .entry))) (range (busCount (now (table .entry)))) v over)) ⌝ }
 {
-    let n = size(table);
+    let n = bus_count(table);
     let units = units(over);
     clear(numerators, n);
     let mut bus = 0;
@@ -93,9 +93,9 @@ pub fn score_over(table: &[u16], over: u64, numerators: &mut [u64])
 
 // Stores the numerators of all buses of a network over its own L, which it gives.
 pub fn score(table: &[u16], numerators: &mut [u64]) -> u64
-    requires { ⌜ Holds (now table) × (size (now table) ≤ length (now numerators)) ⌝ }
+    requires { ⌜ Holds (now table) × (busCount (now table) ≤ length (now numerators)) ⌝ }
     ensures { λ r. ⌜ r ≡ denominator (networkOf (now (table .entry))) ⌝ }
-    ensures { λ _. ⌜ now (numerators .exit) ≡ put (now (numerators .entry)) 0 (mapBelow (size (now (table .entry))) (numeratorOver (networkOf (now (table .entry))) (denominator (networkOf (now (table .entry)))))) ⌝ }
+    ensures { λ _. ⌜ now (numerators .exit) ≡ put (now (numerators .entry)) 0 (mapBelow (busCount (now (table .entry))) (numeratorOver (networkOf (now (table .entry))) (denominator (networkOf (now (table .entry)))))) ⌝ }
 {
     let over = denominator(table);
     score_over(table, over, numerators);
@@ -104,7 +104,7 @@ pub fn score(table: &[u16], numerators: &mut [u64]) -> u64
 
 // What a bus gives to each neighbour.
 fn given(table: &[u16], over: u64, bus: usize) -> u64
-    requires { ⌜ Scorable (now table) × (bus < size (now table)) × Over (now table) over ⌝ }
+    requires { ⌜ Scorable (now table) × (bus < busCount (now table)) × Over (now table) over ⌝ }
     ensures { λ r. ⌜ r ≡ neighbour (gameOf (now (table .entry))) over bus ⌝ }
 {
     let degree = neighbours(table, bus).len();
@@ -114,7 +114,7 @@ fn given(table: &[u16], over: u64, bus: usize) -> u64
 
 // The numerator of one bus: what its neighbours leave it of its own L, which is its own term, and what they give it.
 fn numerator(table: &[u16], over: u64, bus: usize) -> u64
-    requires { ⌜ Scorable (now table) × (bus < size (now table)) × Over (now table) over ⌝ }
+    requires { ⌜ Scorable (now table) × (bus < busCount (now table)) × Over (now table) over ⌝ }
     ensures { λ r. ⌜ r ≡ numeratorOver (networkOf (now (table .entry))) over bus ⌝ }
 {
     let row = neighbours(table, bus);
@@ -130,7 +130,7 @@ fn numerator(table: &[u16], over: u64, bus: usize) -> u64
 
 // The numerator of one bus over the network's own L, and that L.
 pub fn share_of(table: &[u16], bus: usize) -> BusShare
-    requires { ⌜ Holds (now table) × (bus < size (now table)) ⌝ }
+    requires { ⌜ Holds (now table) × (bus < busCount (now table)) ⌝ }
     ensures { λ r. ⌜ (r .numerator ≡ numerator (networkOf (now (table .entry))) bus) × (r .over ≡ denominator (networkOf (now (table .entry)))) ⌝ }
 {
     let over = denominator(table);
@@ -142,14 +142,14 @@ pub fn share_of(table: &[u16], bus: usize) -> BusShare
 
 // The shares of all buses: the numerators are stored, and what they are over is given.
 pub fn shares(table: &[u16], numerators: &mut [u64]) -> AllShares
-    ensures answer { λ r. ⌜ sharesSays r ≡ sharesOutcome (networkOf (now (table .entry))) (length (now (numerators .entry))) ⌝ }
+    ensures answer { λ r. ⌜ outcomeOfShares r ≡ sharesOutcome (networkOf (now (table .entry))) (length (now (numerators .entry))) ⌝ }
     ensures stored { λ _. ⌜ now (numerators .exit) ≡ numeratorsAfter (networkOf (now (table .entry))) (now (numerators .entry)) ⌝ }
-    ensures fair { λ r. ⌜ AllFair (networkOf (now (table .entry))) (length (now (numerators .entry))) (sharesSays r) (now (numerators .exit)) ⌝ }
+    ensures fair { λ r. ⌜ AllFair (networkOf (now (table .entry))) (length (now (numerators .entry))) (outcomeOfShares r) (now (numerators .exit)) ⌝ }
 {
     if !holds(table) {
         return AllShares::Refused(Refusal::NoNetwork);
     }
-    if numerators.len() < size(table) {
+    if numerators.len() < bus_count(table) {
         return AllShares::Refused(Refusal::NumeratorsTooShort);
     }
     let over = score(table, numerators);
@@ -158,13 +158,13 @@ pub fn shares(table: &[u16], numerators: &mut [u64]) -> AllShares
 
 // The share of one bus: its numerator, and what it is over.
 pub fn share(table: &[u16], bus: usize) -> OneShare
-    ensures answer { λ r. ⌜ shareSays r ≡ shareOutcome (networkOf (now (table .entry))) bus ⌝ }
-    ensures fair { λ r. ⌜ OneFair (networkOf (now (table .entry))) bus (shareSays r) ⌝ }
+    ensures answer { λ r. ⌜ outcomeOfShare r ≡ shareOutcome (networkOf (now (table .entry))) bus ⌝ }
+    ensures fair { λ r. ⌜ OneFair (networkOf (now (table .entry))) bus (outcomeOfShare r) ⌝ }
 {
     if !holds(table) {
         return OneShare::Refused(Refusal::NoNetwork);
     }
-    if size(table) <= bus {
+    if bus_count(table) <= bus {
         return OneShare::Refused(Refusal::NoSuchBus);
     }
     let share = share_of(table, bus);

@@ -1,4 +1,4 @@
--- What a reading of the input answers. Definitions only. Assumes nothing.
+-- What a reading of the input answers. Definitions only.
 use Prim.Native.Nat.{ℕ, _≤_}
 use Rattle.share_sheet.specs.declared.Input.{Input}
 use Rattle.share_sheet.specs.declared.Input.the-variants.{Bytes, Failed}

@@ -1,4 +1,4 @@
--- What callers in C are told: definitions, computed examples, then how an answer is told, and that its number says which.
-pub mod Told
+-- What callers in C are handed: definitions, computed examples, then that a status and the values beside it are the outcome.
+pub mod Status
 pub mod Examples
-pub mod Telling
+pub mod StatusLaws

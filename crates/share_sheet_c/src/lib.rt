@@ -1,27 +1,27 @@
-// The library for C, and for languages that call C: each call of 01, the whole sheet and the sizes that are enough, on numbers, slices and lent places.
-// A call gives a 32-bit status: 0, or 01's number where it is refused. Values are handed back through lent places, which a refused call leaves as they were.
+// The library for C, and for languages that call C: each call of the scope, the whole sheet and the sizes that are enough, on numbers, slices and lent places.
+// A call gives a 32-bit status: 0, or the scope's number where it is refused. Values are handed back through lent places, which a refused call leaves as they were.
 ghost use mathlib.Core.Path.{_≡_};
 ghost use lib.ListN.{length};
 ghost use Rattle.refusals.specs.Numbers.{numberOf};
-ghost use Rattle.tables.specs.Limits.{maxBuses, maxEntries, maxBytes};
-ghost use Rattle.tables.specs.Answers.{degreeOutcome, rowPlaceOutcome, RowStands};
-ghost use Rattle.reading.specs.Read.{readOutcome, tableAfter, Recorded};
+ghost use Rattle.table_spec.specs.Limits.{maxBuses, maxEntries, maxBytes};
+ghost use Rattle.table_spec.specs.TableOutcomes.{degreeOutcome, rowPlaceOutcome, RowStands};
+ghost use Rattle.file_spec.specs.ReadOutcome.{readOutcome, tableAfter, Recorded};
 ghost use Rattle.two_way.specs.TwoWay.{networkOf};
-ghost use Rattle.shares.specs.Answers.{sharesOutcome, numeratorsAfter, AllFair, shareOutcome, OneFair};
+ghost use Rattle.share_spec.specs.ShareOutcomes.{sharesOutcome, numeratorsAfter, AllFair, shareOutcome, OneFair};
 ghost use Rattle.fraction.specs.Cancel.{cancelOutcome, CancelRule};
-ghost use Rattle.sheet.specs.Answers.{lineOutcome, lineAfter};
-ghost use Rattle.whole_sheet.specs.Whole.{sheetOutcome, sheetAfter};
-ghost use Rattle.whole_sheet.specs.Work.{longestSheet};
-ghost use Rattle.share_sheet_c.specs.Told.{Tells, told, counted};
+ghost use Rattle.sheet.specs.LineOutcomes.{lineOutcome, lineAfter};
+ghost use Rattle.whole_sheet.specs.WholeSheet.{sheetOutcome, sheetAfter};
+ghost use Rattle.whole_sheet.specs.SheetRoom.{longestSheet};
+ghost use Rattle.share_sheet_c.specs.Status.{ByStatus, outcomeOfStatus, counted};
 use fraction::Cancelled;
-use lookup::BusDegree;
-use lookup::RowPlace;
 use network::Network;
 use reader::Reading;
 use refusals::Refusal;
 use scorer::AllShares;
 use scorer::OneShare;
 use sheet::Written;
+use table_lookup::BusDegree;
+use table_lookup::RowPlace;
 use whole_sheet::LONGEST_SHEET;
 
 // The status of a refused call.
@@ -39,9 +39,9 @@ pub extern "C" fn share_sheet_read(
     buses: &mut usize,
     lines: &mut usize,
 ) -> u32
-    ensures answer { λ r. ⌜ Tells (readOutcome (now (file .entry)) (length (now (table .entry)))) (counted (now (buses .entry)) (now (lines .entry))) r (counted (now (buses .exit)) (now (lines .exit))) ⌝ }
+    ensures answer { λ r. ⌜ ByStatus (readOutcome (now (file .entry)) (length (now (table .entry)))) (counted (now (buses .entry)) (now (lines .entry))) r (counted (now (buses .exit)) (now (lines .exit))) ⌝ }
     ensures stored { λ _. ⌜ now (table .exit) ≡ tableAfter (now (file .entry)) (now (table .entry)) ⌝ }
-    ensures recorded { λ r. ⌜ Recorded (now (file .entry)) (now (table .entry)) (told r (counted (now (buses .exit)) (now (lines .exit)))) (now (table .exit)) ⌝ }
+    ensures recorded { λ r. ⌜ Recorded (now (file .entry)) (now (table .entry)) (outcomeOfStatus r (counted (now (buses .exit)) (now (lines .exit)))) (now (table .exit)) ⌝ }
 {
     match reader::read(file, table) {
         Reading::Refused(cause) => status(cause),
@@ -56,9 +56,9 @@ pub extern "C" fn share_sheet_read(
 // Gives the degree of a bus.
 #[no_mangle]
 pub extern "C" fn share_sheet_degree(table: &[u16], bus: usize, degree: &mut usize) -> u32
-    ensures answer { λ r. ⌜ Tells (degreeOutcome (now (table .entry)) bus) (now (degree .entry)) r (now (degree .exit)) ⌝ }
+    ensures answer { λ r. ⌜ ByStatus (degreeOutcome (now (table .entry)) bus) (now (degree .entry)) r (now (degree .exit)) ⌝ }
 {
-    match lookup::degree(table, bus) {
+    match table_lookup::degree(table, bus) {
         BusDegree::Refused(cause) => status(cause),
         BusDegree::Is(neighbours) => {
             *degree = neighbours;
@@ -68,7 +68,7 @@ pub extern "C" fn share_sheet_degree(table: &[u16], bus: usize, degree: &mut usi
 }
 
 // Gives where the row of a bus begins in the table, and how many entries it has.
-// 01's Row is that part of the table itself, and where it is refused the empty part. So a caller in C takes the `entries` entries from `start` on where the status is 0, and otherwise none, since both places are then as they were.
+// The scope's Row is that part of the table itself, and where it is refused the empty part. So a caller in C takes the `entries` entries from `start` on where the status is 0, and otherwise none, since both places are then as they were.
 #[no_mangle]
 pub extern "C" fn share_sheet_row(
     table: &[u16],
@@ -76,10 +76,10 @@ pub extern "C" fn share_sheet_row(
     start: &mut usize,
     entries: &mut usize,
 ) -> u32
-    ensures answer { λ r. ⌜ Tells (rowPlaceOutcome (now (table .entry)) bus) (now (start .entry), now (entries .entry)) r (now (start .exit), now (entries .exit)) ⌝ }
-    ensures stands { λ r. ⌜ RowStands (now (table .entry)) bus (told r (now (start .exit), now (entries .exit))) ⌝ }
+    ensures answer { λ r. ⌜ ByStatus (rowPlaceOutcome (now (table .entry)) bus) (now (start .entry), now (entries .entry)) r (now (start .exit), now (entries .exit)) ⌝ }
+    ensures stands { λ r. ⌜ RowStands (now (table .entry)) bus (outcomeOfStatus r (now (start .exit), now (entries .exit))) ⌝ }
 {
-    match lookup::row_place(table, bus) {
+    match table_lookup::row_place(table, bus) {
         RowPlace::Refused(cause) => status(cause),
         RowPlace::At(first, count) => {
             *start = first;
@@ -92,9 +92,9 @@ pub extern "C" fn share_sheet_row(
 // Stores the numerators of all buses, and gives L.
 #[no_mangle]
 pub extern "C" fn share_sheet_shares(table: &[u16], numerators: &mut [u64], over: &mut u64) -> u32
-    ensures answer { λ r. ⌜ Tells (sharesOutcome (networkOf (now (table .entry))) (length (now (numerators .entry)))) (now (over .entry)) r (now (over .exit)) ⌝ }
+    ensures answer { λ r. ⌜ ByStatus (sharesOutcome (networkOf (now (table .entry))) (length (now (numerators .entry)))) (now (over .entry)) r (now (over .exit)) ⌝ }
     ensures stored { λ _. ⌜ now (numerators .exit) ≡ numeratorsAfter (networkOf (now (table .entry))) (now (numerators .entry)) ⌝ }
-    ensures fair { λ r. ⌜ AllFair (networkOf (now (table .entry))) (length (now (numerators .entry))) (told r (now (over .exit))) (now (numerators .exit)) ⌝ }
+    ensures fair { λ r. ⌜ AllFair (networkOf (now (table .entry))) (length (now (numerators .entry))) (outcomeOfStatus r (now (over .exit))) (now (numerators .exit)) ⌝ }
 {
     match scorer::shares(table, numerators) {
         AllShares::Refused(cause) => status(cause),
@@ -113,8 +113,8 @@ pub extern "C" fn share_sheet_share(
     numerator: &mut u64,
     over: &mut u64,
 ) -> u32
-    ensures answer { λ r. ⌜ Tells (shareOutcome (networkOf (now (table .entry))) bus) (now (numerator .entry), now (over .entry)) r (now (numerator .exit), now (over .exit)) ⌝ }
-    ensures fair { λ r. ⌜ OneFair (networkOf (now (table .entry))) bus (told r (now (numerator .exit), now (over .exit))) ⌝ }
+    ensures answer { λ r. ⌜ ByStatus (shareOutcome (networkOf (now (table .entry))) bus) (now (numerator .entry), now (over .entry)) r (now (numerator .exit), now (over .exit)) ⌝ }
+    ensures fair { λ r. ⌜ OneFair (networkOf (now (table .entry))) bus (outcomeOfStatus r (now (numerator .exit), now (over .exit))) ⌝ }
 {
     match scorer::share(table, bus) {
         OneShare::Refused(cause) => status(cause),
@@ -134,8 +134,8 @@ pub extern "C" fn share_sheet_cancel(
     top: &mut u64,
     bottom: &mut u64,
 ) -> u32
-    ensures answer { λ r. ⌜ Tells (cancelOutcome numerator denominator) (now (top .entry), now (bottom .entry)) r (now (top .exit), now (bottom .exit)) ⌝ }
-    ensures rule { λ r. ⌜ CancelRule numerator denominator (told r (now (top .exit), now (bottom .exit))) ⌝ }
+    ensures answer { λ r. ⌜ ByStatus (cancelOutcome numerator denominator) (now (top .entry), now (bottom .entry)) r (now (top .exit), now (bottom .exit)) ⌝ }
+    ensures rule { λ r. ⌜ CancelRule numerator denominator (outcomeOfStatus r (now (top .exit), now (bottom .exit))) ⌝ }
 {
     match fraction::cancel(numerator, denominator) {
         Cancelled::Refused(cause) => status(cause),
@@ -155,7 +155,7 @@ pub extern "C" fn share_sheet_line(
     text: &mut [u8],
     bytes: &mut usize,
 ) -> u32
-    ensures answer { λ r. ⌜ Tells (lineOutcome (networkOf (now (table .entry))) line (length (now (text .entry)))) (now (bytes .entry)) r (now (bytes .exit)) ⌝ }
+    ensures answer { λ r. ⌜ ByStatus (lineOutcome (networkOf (now (table .entry))) line (length (now (text .entry)))) (now (bytes .entry)) r (now (bytes .exit)) ⌝ }
     ensures written { λ _. ⌜ now (text .exit) ≡ lineAfter (networkOf (now (table .entry))) line (now (text .entry)) ⌝ }
 {
     match sheet::line(table, line, text) {
@@ -170,7 +170,7 @@ pub extern "C" fn share_sheet_line(
 // Writes the whole sheet at the front of a lent text, and gives its byte count.
 #[no_mangle]
 pub extern "C" fn share_sheet_whole(table: &[u16], text: &mut [u8], bytes: &mut usize) -> u32
-    ensures answer { λ r. ⌜ Tells (sheetOutcome (networkOf (now (table .entry))) (length (now (text .entry)))) (now (bytes .entry)) r (now (bytes .exit)) ⌝ }
+    ensures answer { λ r. ⌜ ByStatus (sheetOutcome (networkOf (now (table .entry))) (length (now (text .entry)))) (now (bytes .entry)) r (now (bytes .exit)) ⌝ }
     ensures written { λ _. ⌜ now (text .exit) ≡ sheetAfter (networkOf (now (table .entry))) (now (text .entry)) ⌝ }
 {
     match whole_sheet::whole(table, text) {

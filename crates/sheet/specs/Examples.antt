@@ -1,4 +1,4 @@
--- The sheet of Path in 01, computed byte by byte, and how calls come out. Assumes nothing.
+-- The sheet of Path in the scope, computed byte by byte, and how calls come out.
 use mathlib.Core.List.{[], _∷_, map}
 use mathlib.Core.Path.{_≡_, refl}
 use Rattle.lists.specs.Lists.{at}
@@ -7,14 +7,14 @@ use Rattle.refusals.specs.Outcomes.{gives, refuses}
 use Rattle.text.specs.Text.{decimal, filled}
 use Rattle.fraction.specs.Divisors.{gcdOf, lcmOf, lcmAll}
 use Rattle.game.specs.Game.{ownTerm, neighbourTerm}
-use Rattle.tables.specs.Layout.{rowAt, needs, starts, links, row, lines}
-use Rattle.tables.specs.Holds.{within, complete, fairNeeds, neverFall, shortRows, tidy, tidyRow, tidyRows, soundRows, mirrored, twoWay, holds}
-use Rattle.tables.specs.Examples.{path}
-use Rattle.formula.specs.Formula.{numeratorOver}
-use Rattle.formula.specs.Tables.{largestDegree, divisorsOf}
+use Rattle.table_spec.specs.Layout.{rowAt, needs, starts, neighbourNumbers, row, lines}
+use Rattle.table_spec.specs.Holds.{within, complete, needsInRange, neverFall, shortRows, validEntry, validRow, validRows, soundRows, mirrored, twoWay, holds}
+use Rattle.table_spec.specs.Examples.{path}
+use Rattle.share_spec.specs.Formula.{numeratorOver}
+use Rattle.share_spec.specs.TableNetwork.{largestDegree, divisorsOf}
 use Rattle.two_way.specs.TwoWay.{networkOf}
 use Rattle.sheet.specs.Sheet.{sheetLine}
-use Rattle.sheet.specs.Answers.{lineOutcome, lineAfter}
+use Rattle.sheet.specs.LineOutcomes.{lineOutcome, lineAfter}
 
 -- `buses 3 lines 2 over 6`, `0 1 1 5 5/6`, `1 1 2 8 4/3` and `2 1 1 5 5/6`
 path-lines :
@@ -24,12 +24,12 @@ path-lines :
     ∷ (49 ∷ 32 ∷ 49 ∷ 32 ∷ 50 ∷ 32 ∷ 56 ∷ 32 ∷ 52 ∷ 47 ∷ 51 ∷ 10 ∷ [])
     ∷ (50 ∷ 32 ∷ 49 ∷ 32 ∷ 49 ∷ 32 ∷ 53 ∷ 32 ∷ 53 ∷ 47 ∷ 54 ∷ 10 ∷ [])
     ∷ []
-unfolding path filled decimal numeratorOver ownTerm neighbourTerm divisorsOf largestDegree largestBelow lcmAll lcmOf gcdOf mapBelow joinBelow lines sumBelow rowAt needs starts links row at
+unfolding path filled decimal numeratorOver ownTerm neighbourTerm divisorsOf largestDegree largestBelow lcmAll lcmOf gcdOf mapBelow joinBelow lines sumBelow rowAt needs starts neighbourNumbers row at
 path-lines = refl
 
 -- with need 3 at bus 1 its line is `1 3 2 12 2/1`
 path-three : sheetLine (networkOf (path 3)) 2 ≡ 49 ∷ 32 ∷ 51 ∷ 32 ∷ 50 ∷ 32 ∷ 49 ∷ 50 ∷ 32 ∷ 50 ∷ 47 ∷ 49 ∷ 10 ∷ []
-unfolding path filled decimal numeratorOver ownTerm neighbourTerm divisorsOf largestDegree largestBelow lcmAll lcmOf gcdOf mapBelow joinBelow lines sumBelow rowAt needs starts links row at
+unfolding path filled decimal numeratorOver ownTerm neighbourTerm divisorsOf largestDegree largestBelow lcmAll lcmOf gcdOf mapBelow joinBelow lines sumBelow rowAt needs starts neighbourNumbers row at
 path-three = refl
 
 -- no network; no line 4, however few bytes are lent; a byte too few; enough, and one byte more
@@ -38,12 +38,12 @@ path-answers :
     × (map (lineOutcome (networkOf (path 1)) 4) (0 ∷ 99 ∷ []) ≡ refuses 13 ∷ refuses 13 ∷ [])
     × (map (lineOutcome (networkOf (path 1)) 0) (22 ∷ 23 ∷ 24 ∷ []) ≡ refuses 14 ∷ gives 23 ∷ gives 23 ∷ [])
     × (map (lineOutcome (networkOf (path 1)) 3) (11 ∷ 12 ∷ []) ≡ refuses 14 ∷ gives 12 ∷ [])
-unfolding path filled decimal numeratorOver ownTerm neighbourTerm divisorsOf largestDegree largestBelow lcmAll lcmOf gcdOf mapBelow joinBelow lines sumBelow holds twoWay complete within fairNeeds soundRows neverFall shortRows tidyRows tidyRow tidy mirrored allBelow rowAt needs starts links row at
+unfolding path filled decimal numeratorOver ownTerm neighbourTerm divisorsOf largestDegree largestBelow lcmAll lcmOf gcdOf mapBelow joinBelow lines sumBelow holds twoWay complete within needsInRange soundRows neverFall shortRows validRows validRow validEntry mirrored allBelow rowAt needs starts neighbourNumbers row at
 path-answers = (refl, refl, refl, refl)
 
 -- the line at the front, and what stood behind it; refused, nothing is changed
 path-after :
     (lineAfter (networkOf (path 1)) 1 (7 ∷ 7 ∷ 7 ∷ 7 ∷ 7 ∷ 7 ∷ 7 ∷ 7 ∷ 7 ∷ 7 ∷ 7 ∷ 7 ∷ 7 ∷ 8 ∷ []) ≡ 48 ∷ 32 ∷ 49 ∷ 32 ∷ 49 ∷ 32 ∷ 53 ∷ 32 ∷ 53 ∷ 47 ∷ 54 ∷ 10 ∷ 7 ∷ 8 ∷ [])
     × (lineAfter (networkOf (path 1)) 1 (7 ∷ 8 ∷ []) ≡ 7 ∷ 8 ∷ [])
-unfolding path filled decimal numeratorOver ownTerm neighbourTerm divisorsOf largestDegree largestBelow lcmAll lcmOf gcdOf mapBelow joinBelow lines sumBelow holds twoWay complete within fairNeeds soundRows neverFall shortRows tidyRows tidyRow tidy mirrored allBelow rowAt needs starts links row at
+unfolding path filled decimal numeratorOver ownTerm neighbourTerm divisorsOf largestDegree largestBelow lcmAll lcmOf gcdOf mapBelow joinBelow lines sumBelow holds twoWay complete within needsInRange soundRows neverFall shortRows validRows validRow validEntry mirrored allBelow rowAt needs starts neighbourNumbers row at
 path-after = (refl, refl)

@@ -1,10 +1,10 @@
--- The lines of a network's share sheet. Definitions only. Assumes nothing.
+-- The lines of a network's share sheet. Definitions only.
 use mathlib.Core.List.{List, [], _∷_}
 use Prim.Native.Nat.{ℕ, zero, suc}
 use Rattle.text.specs.Text.{filled}
 use Rattle.fraction.specs.Cancel.{cancelled}
-use Rattle.formula.specs.Network.{Network, denominator}
-use Rattle.formula.specs.Formula.{numerator}
+use Rattle.share_spec.specs.Network.{Network, denominator}
+use Rattle.share_spec.specs.Formula.{numerator}
 
 -- `buses # lines # over #`, ended by byte 10
 abbrev pub headingForm : List ℕ

@@ -3,25 +3,25 @@ ghost use mathlib.Core.Path.{_≡_};
 ghost use Prim.Native.Nat.{suc, _+_, _≤_, _<_};
 ghost use lib.ListN.{length};
 ghost use Rattle.lists.specs.Lists.{put};
-ghost use Rattle.tables.specs.Layout.{size};
-ghost use Rattle.tables.specs.Holds.{Holds};
-ghost use Rattle.formula.specs.Network.{denominator};
-ghost use Rattle.formula.specs.Formula.{numerator as numeratorOf};
+ghost use Rattle.table_spec.specs.Layout.{busCount};
+ghost use Rattle.table_spec.specs.Holds.{Holds};
+ghost use Rattle.share_spec.specs.Network.{denominator};
+ghost use Rattle.share_spec.specs.Formula.{numerator as numeratorOf};
 ghost use Rattle.two_way.specs.TwoWay.{networkOf};
 ghost use Rattle.sheet.specs.Sheet.{sheetLine};
-ghost use Rattle.sheet.specs.Answers.{writtenSays, textOutcome, textAfter, lineOutcome, lineAfter};
-ghost use Rattle.sheet.specs.Work.{longestLine};
+ghost use Rattle.sheet.specs.LineOutcomes.{outcomeOfWritten, textOutcome, textAfter, lineOutcome, lineAfter};
+ghost use Rattle.sheet.specs.LineRoom.{longestLine};
 use bytes::copy;
 use fraction::reduce;
 pub use network::Refusal;
+use network::table::bus_count;
 use network::table::lines;
 use network::table::need;
 use network::table::neighbours;
-use network::table::size;
 use scorer::denominator;
 use scorer::share_of;
-use table_test::holds;
-use text::fill;
+use table_check::holds;
+use text::fill_template;
 
 // How many bytes of text were written, or why none were.
 pub enum Written {
@@ -38,10 +38,10 @@ pub fn write_heading(table: &[u16], over: u64, out: &mut [u8], at: usize) -> usi
     ensures { λ r. ⌜ (r ≡ at + length (sheetLine (networkOf (now (table .entry))) 0)) × (r ≤ at + longestLine) ⌝ }
     ensures { λ _. ⌜ now (out .exit) ≡ put (now (out .entry)) at (sheetLine (networkOf (now (table .entry))) 0) ⌝ }
 {
-    let buses = size(table) as u64;
+    let buses = bus_count(table) as u64;
     let lines = lines(table) as u64;
     let numbers = [buses, lines, over];
-    fill(b"buses # lines # over #\n", &numbers, out, at)
+    fill_template(b"buses # lines # over #\n", &numbers, out, at)
 }
 
 // Writes the line of a bus whose numerator is known, and gives the place behind it.
@@ -53,7 +53,7 @@ pub fn write_bus(
     out: &mut [u8],
     at: usize,
 ) -> usize
-    requires { ⌜ Holds (now table) × (bus < size (now table)) × (at + longestLine ≤ length (now out)) ⌝ }
+    requires { ⌜ Holds (now table) × (bus < busCount (now table)) × (at + longestLine ≤ length (now out)) ⌝ }
     requires { ⌜ (over ≡ denominator (networkOf (now table))) × (numerator ≡ numeratorOf (networkOf (now table)) bus) ⌝ }
     ensures { λ r. ⌜ (r ≡ at + length (sheetLine (networkOf (now (table .entry))) (suc bus))) × (r ≤ at + longestLine) ⌝ }
     ensures { λ _. ⌜ now (out .exit) ≡ put (now (out .entry)) at (sheetLine (networkOf (now (table .entry))) (suc bus)) ⌝ }
@@ -62,12 +62,12 @@ pub fn write_bus(
     let degree = neighbours(table, bus).len() as u64;
     let share = reduce(numerator, over);
     let numbers = [bus as u64, need, degree, numerator, share.top, share.bottom];
-    fill(b"# # # # #/#\n", &numbers, out, at)
+    fill_template(b"# # # # #/#\n", &numbers, out, at)
 }
 
 // Writes sheet line i at the front: line 0 is the heading, line i that of bus i - 1.
 fn write_line(table: &[u16], i: usize, out: &mut [u8]) -> usize
-    requires { ⌜ Holds (now table) × (i ≤ size (now table)) × (longestLine ≤ length (now out)) ⌝ }
+    requires { ⌜ Holds (now table) × (i ≤ busCount (now table)) × (longestLine ≤ length (now out)) ⌝ }
     ensures { λ r. ⌜ (r ≡ length (sheetLine (networkOf (now (table .entry))) i)) × (r ≤ longestLine) ⌝ }
     ensures { λ _. ⌜ now (out .exit) ≡ put (now (out .entry)) 0 (sheetLine (networkOf (now (table .entry))) i) ⌝ }
 {
@@ -80,8 +80,8 @@ fn write_line(table: &[u16], i: usize, out: &mut [u8]) -> usize
 }
 
 // Copies a text to the front of a lent slice, if that is long enough.
-pub fn place(text: &[u8], out: &mut [u8]) -> Written
-    ensures { λ r. ⌜ writtenSays r ≡ textOutcome (now (text .entry)) (length (now (out .entry))) ⌝ }
+pub fn copy_text(text: &[u8], out: &mut [u8]) -> Written
+    ensures { λ r. ⌜ outcomeOfWritten r ≡ textOutcome (now (text .entry)) (length (now (out .entry))) ⌝ }
     ensures { λ _. ⌜ now (out .exit) ≡ textAfter (now (text .entry)) (now (out .entry)) ⌝ }
 {
     if out.len() < text.len() {
@@ -92,16 +92,16 @@ pub fn place(text: &[u8], out: &mut [u8]) -> Written
 
 // Writes sheet line i at the front of a lent slice. It is written aside first, since a refused call changes nothing.
 pub fn line(table: &[u16], i: usize, out: &mut [u8]) -> Written
-    ensures answer { λ r. ⌜ writtenSays r ≡ lineOutcome (networkOf (now (table .entry))) i (length (now (out .entry))) ⌝ }
+    ensures answer { λ r. ⌜ outcomeOfWritten r ≡ lineOutcome (networkOf (now (table .entry))) i (length (now (out .entry))) ⌝ }
     ensures text { λ _. ⌜ now (out .exit) ≡ lineAfter (networkOf (now (table .entry))) i (now (out .entry)) ⌝ }
 {
     if !holds(table) {
         return Written::Refused(Refusal::NoNetwork);
     }
-    if size(table) < i {
+    if bus_count(table) < i {
         return Written::Refused(Refusal::NoSuchBus);
     }
     let mut text = [0u8; LONGEST_LINE];
     let bytes = write_line(table, i, &mut text);
-    place(&text[..bytes], out)
+    copy_text(&text[..bytes], out)
 }

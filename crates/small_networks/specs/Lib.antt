@@ -1,1 +1,2 @@
-pub mod Bounds
+-- How large a network and its table get.
+pub mod SizeBounds

@@ -5,7 +5,7 @@
 // is that of exactly one number of which nothing is left, as digits are, and each order has exactly one such row; so every
 // order comes once.
 ghost use Prim.Native.Nat.{_≤_, _<_};
-ghost use Rattle.small_networks.specs.Bounds.{most};
+ghost use Rattle.small_networks.specs.SizeBounds.{most};
 use crate::MOST;
 use crate::Small;
 use crate::has;

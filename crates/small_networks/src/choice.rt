@@ -1,7 +1,7 @@
 // Which networks are compared: all small ones with need 1, and some with needs and lines drawn by chance from a fixed seed.
 ghost use mathlib.Core.Path.{_≡_};
 ghost use Prim.Native.Nat.{_≤_, _<_};
-ghost use Rattle.small_networks.specs.Bounds.{most};
+ghost use Rattle.small_networks.specs.SizeBounds.{most};
 use crate::MOST;
 use crate::Small;
 use crate::neighbours;

@@ -1,7 +1,7 @@
 // Networks of up to seven buses: which are compared, their line tables, and the average over all orders of fitting. This crate
 // knows nothing of the scorer. A set of buses is a number: bus b is in it if the binary digit at place b is 1.
 ghost use Prim.Native.Nat.{_≤_, _<_};
-ghost use Rattle.small_networks.specs.Bounds.{most};
+ghost use Rattle.small_networks.specs.SizeBounds.{most};
 
 pub mod average;
 pub mod choice;

@@ -1,6 +1,6 @@
 // The line table of a network.
 ghost use Prim.Native.Nat.{_+_, _≤_, _<_};
-ghost use Rattle.small_networks.specs.Bounds.{most, entries};
+ghost use Rattle.small_networks.specs.SizeBounds.{most, entries};
 use crate::MOST;
 use crate::Small;
 use crate::has;

@@ -1,4 +1,4 @@
--- Numbers and a template, computed. Assumes nothing.
+-- Numbers and a template, computed.
 use mathlib.Core.List.{[], _∷_, map}
 use mathlib.Core.Path.{_≡_, refl}
 use Rattle.lists.specs.Lists.{at}

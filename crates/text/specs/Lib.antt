@@ -2,4 +2,4 @@
 pub mod Text
 pub mod Examples
 pub mod Decimal
-pub mod Filled
+pub mod Templates

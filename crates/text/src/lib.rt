@@ -21,7 +21,7 @@ fn decimal(value: u64, out: &mut [u8], at: usize) -> usize
 }
 
 // Writes a template with its numbers, and gives the place behind it.
-pub fn fill(template: &[u8], values: &[u64], out: &mut [u8], at: usize) -> usize
+pub fn fill_template(template: &[u8], values: &[u64], out: &mut [u8], at: usize) -> usize
     requires { ⌜ (count sign (now template) ≤ length (now values)) × (at + length (filled (now template) (now values)) ≤ length (now out)) ⌝ }
     ensures { λ r. ⌜ r ≡ at + length (filled (now (template .entry)) (now (values .entry))) ⌝ }
     ensures { λ _. ⌜ now (out .exit) ≡ put (now (out .entry)) at (filled (now (template .entry)) (now (values .entry))) ⌝ }

@@ -1,4 +1,4 @@
--- Shares of 01's networks, computed. Assumes nothing.
+-- Shares of the scope's networks, computed.
 use mathlib.Core.List.{List, [], _∷_, map}
 use mathlib.Core.Path.{_≡_, refl}
 use Prim.Native.Nat.{ℕ}
@@ -6,11 +6,11 @@ use Rattle.lists.specs.Lists.{at}
 use Rattle.lists.specs.Below.{largestBelow, joinBelow, mapBelow}
 use Rattle.fraction.specs.Divisors.{gcdOf, lcmOf, lcmAll}
 use Rattle.game.specs.Game.{ownTerm, neighbourTerm}
-use Rattle.tables.specs.Layout.{rowAt, needs, starts, links, row}
-use Rattle.tables.specs.Examples.{path, star}
-use Rattle.formula.specs.Network.{denominator}
-use Rattle.formula.specs.Tables.{largestDegree, divisorsOf}
-use Rattle.formula.specs.Formula.{numeratorOver, numerator}
+use Rattle.table_spec.specs.Layout.{rowAt, needs, starts, neighbourNumbers, row}
+use Rattle.table_spec.specs.Examples.{path, star}
+use Rattle.share_spec.specs.Network.{denominator}
+use Rattle.share_spec.specs.TableNetwork.{largestDegree, divisorsOf}
+use Rattle.share_spec.specs.Formula.{numeratorOver, numerator}
 use Rattle.two_way.specs.TwoWay.{networkOf}
 
 -- one bus with need k, and no line
@@ -38,7 +38,7 @@ record Case : Type 0 where
 case : List ℕ → List ℕ → ℕ → Case
 case t numerators over = record { table = t; numerators = numerators; over = over }
 
--- 01's starred networks, and one with a bus alone
+-- the scope's starred networks, and one with a bus alone
 cases : List Case
 unfolding lone pair path triangle apart case
 cases =
@@ -54,15 +54,15 @@ cases =
     ∷ []
 
 by-formula : map (λ c. let N = networkOf (c .table) in case (c .table) (mapBelow (N .buses) (numerator N)) (denominator N)) cases ≡ cases
-unfolding cases numeratorOver ownTerm neighbourTerm divisorsOf largestDegree largestBelow lcmAll lcmOf gcdOf mapBelow joinBelow row rowAt needs starts links at
+unfolding cases numeratorOver ownTerm neighbourTerm divisorsOf largestDegree largestBelow lcmAll lcmOf gcdOf mapBelow joinBelow row rowAt needs starts neighbourNumbers at
 by-formula = refl
 
--- Path without its line 0, over the L of Path: 01's formula gives each bus 6, so the changes are 1, -2 and 1
+-- Path without its line 0, over the L of Path: the scope's formula gives each bus 6, so the changes are 1, -2 and 1
 weakened : (let N = networkOf (3 ∷ 1 ∷ 1 ∷ 1 ∷ 0 ∷ 0 ∷ 1 ∷ 2 ∷ 2 ∷ 1 ∷ []) in mapBelow 3 (numeratorOver N 6)) ≡ 6 ∷ 6 ∷ 6 ∷ []
-unfolding numeratorOver ownTerm neighbourTerm mapBelow joinBelow row rowAt needs starts links at
+unfolding numeratorOver ownTerm neighbourTerm mapBelow joinBelow row rowAt needs starts neighbourNumbers at
 weakened = refl
 
--- 01's star of 24 buses: L, the centre, a leaf
+-- the scope's star of 24 buses: L, the centre, a leaf
 star-shares : (let N = networkOf (star 23) in denominator N ∷ numerator N 0 ∷ numerator N 23 ∷ []) ≡ 5354228880 ∷ 61796724990 ∷ 2900207310 ∷ []
-unfolding star numeratorOver ownTerm neighbourTerm divisorsOf largestDegree largestBelow lcmAll lcmOf gcdOf mapBelow joinBelow row rowAt needs starts links at
+unfolding star numeratorOver ownTerm neighbourTerm divisorsOf largestDegree largestBelow lcmAll lcmOf gcdOf mapBelow joinBelow row rowAt needs starts neighbourNumbers at
 star-shares = refl

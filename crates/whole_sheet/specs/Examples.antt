@@ -1,4 +1,4 @@
--- Whole sheets, computed. Assumes nothing.
+-- Whole sheets, computed.
 use mathlib.Core.List.{[], _∷_, map}
 use mathlib.Core.Path.{_≡_, refl}
 use lib.ListN.{replicate}
@@ -8,19 +8,19 @@ use Rattle.refusals.specs.Outcomes.{gives, refuses}
 use Rattle.text.specs.Text.{decimal, filled}
 use Rattle.fraction.specs.Divisors.{gcdOf, lcmOf, lcmAll}
 use Rattle.game.specs.Game.{ownTerm, neighbourTerm}
-use Rattle.tables.specs.Layout.{rowAt, needs, starts, links, row, lines}
-use Rattle.tables.specs.Holds.{within, complete, fairNeeds, neverFall, shortRows, tidy, tidyRow, tidyRows, soundRows, mirrored, twoWay, holds}
-use Rattle.tables.specs.Examples.{path}
-use Rattle.formula.specs.Formula.{numeratorOver}
-use Rattle.formula.specs.Tables.{largestDegree, divisorsOf}
+use Rattle.table_spec.specs.Layout.{rowAt, needs, starts, neighbourNumbers, row, lines}
+use Rattle.table_spec.specs.Holds.{within, complete, needsInRange, neverFall, shortRows, validEntry, validRow, validRows, soundRows, mirrored, twoWay, holds}
+use Rattle.table_spec.specs.Examples.{path}
+use Rattle.share_spec.specs.Formula.{numeratorOver}
+use Rattle.share_spec.specs.TableNetwork.{largestDegree, divisorsOf}
 use Rattle.two_way.specs.TwoWay.{networkOf}
-use Rattle.whole_sheet.specs.Whole.{sheetOutcome, sheetAfter}
+use Rattle.whole_sheet.specs.WholeSheet.{sheetOutcome, sheetAfter}
 
 -- 59 bytes: a byte too few, enough, and one byte more; no network, however few bytes are lent
 path-answers :
     (map (sheetOutcome (networkOf (path 1))) (0 ∷ 58 ∷ 59 ∷ 60 ∷ []) ≡ refuses 14 ∷ refuses 14 ∷ gives 59 ∷ gives 59 ∷ [])
     × (map (sheetOutcome (networkOf (path 0))) (0 ∷ 99 ∷ []) ≡ refuses 11 ∷ refuses 11 ∷ [])
-unfolding path filled decimal numeratorOver ownTerm neighbourTerm divisorsOf largestDegree largestBelow lcmAll lcmOf gcdOf mapBelow joinBelow lines sumBelow holds twoWay complete within fairNeeds soundRows neverFall shortRows tidyRows tidyRow tidy mirrored allBelow rowAt needs starts links row at
+unfolding path filled decimal numeratorOver ownTerm neighbourTerm divisorsOf largestDegree largestBelow lcmAll lcmOf gcdOf mapBelow joinBelow lines sumBelow holds twoWay complete within needsInRange soundRows neverFall shortRows validRows validRow validEntry mirrored allBelow rowAt needs starts neighbourNumbers row at
 path-answers = (refl, refl)
 
 -- the sheet of one bus without lines, `buses 1 lines 0 over 1` and `0 24 0 1 1/1`, in front of what stood behind it; refused, nothing is changed
@@ -28,5 +28,5 @@ lone-after :
     (sheetAfter (networkOf (1 ∷ 24 ∷ 0 ∷ 0 ∷ [])) (replicate 38 7)
     ≡ 98 ∷ 117 ∷ 115 ∷ 101 ∷ 115 ∷ 32 ∷ 49 ∷ 32 ∷ 108 ∷ 105 ∷ 110 ∷ 101 ∷ 115 ∷ 32 ∷ 48 ∷ 32 ∷ 111 ∷ 118 ∷ 101 ∷ 114 ∷ 32 ∷ 49 ∷ 10 ∷ 48 ∷ 32 ∷ 50 ∷ 52 ∷ 32 ∷ 48 ∷ 32 ∷ 49 ∷ 32 ∷ 49 ∷ 47 ∷ 49 ∷ 10 ∷ 7 ∷ 7 ∷ [])
     × (sheetAfter (networkOf (1 ∷ 24 ∷ 0 ∷ 0 ∷ [])) (7 ∷ 8 ∷ []) ≡ 7 ∷ 8 ∷ [])
-unfolding filled decimal numeratorOver ownTerm neighbourTerm divisorsOf largestDegree largestBelow lcmAll lcmOf gcdOf mapBelow joinBelow lines sumBelow holds twoWay complete within fairNeeds soundRows neverFall shortRows tidyRows tidyRow tidy mirrored allBelow rowAt needs starts links row at
+unfolding filled decimal numeratorOver ownTerm neighbourTerm divisorsOf largestDegree largestBelow lcmAll lcmOf gcdOf mapBelow joinBelow lines sumBelow holds twoWay complete within needsInRange soundRows neverFall shortRows validRows validRow validEntry mirrored allBelow rowAt needs starts neighbourNumbers row at
 lone-after = (refl, refl)

@@ -1,8 +1,8 @@
 -- Whole sheets: definitions, computed examples, then laws, and that entries beyond the table never matter.
-pub mod Whole
+pub mod WholeSheet
 pub mod Examples
-pub mod Work
-pub mod Fits
-pub mod Lines
-pub mod Calls
-pub mod Beyond
+pub mod SheetRoom
+pub mod SheetFits
+pub mod SheetWriting
+pub mod SheetDue
+pub mod BeyondSheet

@@ -3,21 +3,21 @@ ghost use mathlib.Core.Path.{_≡_};
 ghost use Prim.Native.Nat.{_≤_};
 ghost use lib.ListN.{length};
 ghost use Rattle.lists.specs.Lists.{put};
-ghost use Rattle.tables.specs.Holds.{Holds};
+ghost use Rattle.table_spec.specs.Holds.{Holds};
 ghost use Rattle.two_way.specs.TwoWay.{networkOf};
-ghost use Rattle.sheet.specs.Answers.{writtenSays};
-ghost use Rattle.whole_sheet.specs.Whole.{wholeSheet, sheetOutcome, sheetAfter};
-ghost use Rattle.whole_sheet.specs.Work.{longestSheet, Scored};
+ghost use Rattle.sheet.specs.LineOutcomes.{outcomeOfWritten};
+ghost use Rattle.whole_sheet.specs.WholeSheet.{wholeSheet, sheetOutcome, sheetAfter};
+ghost use Rattle.whole_sheet.specs.SheetRoom.{longestSheet, Scored};
 use network::Network;
-use network::table::size;
+use network::table::bus_count;
 use scorer::score;
 use sheet::LONGEST_LINE;
 pub use sheet::Refusal;
 pub use sheet::Written;
-use sheet::place;
+use sheet::copy_text;
 use sheet::write_bus;
 use sheet::write_heading;
-use table_test::holds;
+use table_check::holds;
 
 // Bytes that are enough for every sheet: the heading, and a line for each bus.
 pub const LONGEST_SHEET: usize = LONGEST_LINE * (1 + Network::BUSES);
@@ -28,7 +28,7 @@ fn write_lines(table: &[u16], over: u64, numerators: &[u64], out: &mut [u8]) -> 
     ensures { λ r. ⌜ (r ≡ length (wholeSheet (networkOf (now (table .entry))))) × (r ≤ longestSheet) ⌝ }
     ensures { λ _. ⌜ now (out .exit) ≡ put (now (out .entry)) 0 (wholeSheet (networkOf (now (table .entry)))) ⌝ }
 {
-    let n = size(table);
+    let n = bus_count(table);
     let mut end = write_heading(table, over, out, 0);
     let mut bus = 0;
     while bus < n {
@@ -51,7 +51,7 @@ pub fn write_sheet(table: &[u16], out: &mut [u8]) -> usize
 
 // Writes sheet lines 0 to n at the front of a lent slice. They are written aside first, since a refused call changes nothing.
 pub fn whole(table: &[u16], out: &mut [u8]) -> Written
-    ensures answer { λ r. ⌜ writtenSays r ≡ sheetOutcome (networkOf (now (table .entry))) (length (now (out .entry))) ⌝ }
+    ensures answer { λ r. ⌜ outcomeOfWritten r ≡ sheetOutcome (networkOf (now (table .entry))) (length (now (out .entry))) ⌝ }
     ensures text { λ _. ⌜ now (out .exit) ≡ sheetAfter (networkOf (now (table .entry))) (now (out .entry)) ⌝ }
 {
     if !holds(table) {
@@ -59,5 +59,5 @@ pub fn whole(table: &[u16], out: &mut [u8]) -> Written
     }
     let mut text = [0u8; LONGEST_SHEET];
     let bytes = write_sheet(table, &mut text);
-    place(&text[..bytes], out)
+    copy_text(&text[..bytes], out)
 }

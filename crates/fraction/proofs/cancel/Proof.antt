@@ -1,4 +1,4 @@
--- `fraction::cancel` meets its contract. What it says is what is due, and what is due obeys the rule. Assumes nothing.
+-- `fraction::cancel` meets its contract. Its outcome is what is due, and what is due obeys the rule.
 use mathlib.Core.Path.{_≡_, sym, ap, subst, _∙_}
 use Prim.Native.Nat.{ℕ}
 use native.Mathlib.Omega.{arith}

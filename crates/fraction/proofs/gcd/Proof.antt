@@ -1,4 +1,4 @@
--- `fraction::gcd` meets its contract. Each turn keeps the greatest common divisor and makes the sum smaller. Assumes nothing.
+-- `fraction::gcd` meets its contract. Each iteration keeps the greatest common divisor and makes the sum smaller.
 use mathlib.Core.Path.{refl}
 use Prim.Native.Nat.{_+_}
 use native.Mathlib.Nat.{lt-of-le-of-lt}
@@ -8,7 +8,7 @@ use borrow.Author.Needs.{needs}
 use Rattle.fraction.specs.Divisors.{gcdOf}
 use Rattle.fraction.specs.Gcd.{gcd-zero, gcd-flip}
 use Rattle.fraction.specs.Odd.{twos-below}
-use Rattle.fraction.proofs.Binary.{Odds, turn, agreed}
+use Rattle.fraction.proofs.Binary.{Odds, step, agreed}
 use Rattle.fraction.proofs.gcd.Statement.{statement}
 use Rattle.fraction.proofs.gcd.Tie as tie
 
@@ -46,7 +46,7 @@ least-requires-2 : tie.Need-least-requires-2 Inv-loop μ-loop
 least-requires-2 c κs = tt
 
 loop-again : tie.Need-loop-again Inv-loop μ-loop
-loop-again c = turn (c .before .before .before .before .loop .inv) (c .before .before .gap .ensures) (c .before .odd-part3 .ensures) (c .least2 .ensures)
+loop-again c = step (c .before .before .before .before .loop .inv) (c .before .before .gap .ensures) (c .before .odd-part3 .ensures) (c .least2 .ensures)
 
 returns-3 : tie.Need-returns-3 Inv-loop μ-loop
 returns-3 c =

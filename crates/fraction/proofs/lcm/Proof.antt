@@ -1,11 +1,11 @@
--- `fraction::lcm` meets its contract. Assumes nothing.
+-- `fraction::lcm` meets its contract.
 use mathlib.Core.Path.{_≡_, sym, ap, _∙_}
 use Prim.Native.Nat.{ℕ, _*_, _/_, _%_}
 use native.Mathlib.Nat.{div-one, pos-of-dvd-of-pos}
 use native.Mathlib.Omega.{arith}
 use borrow.Author.Needs.{needs}
 use Rattle.fraction.specs.Divisors.{IsGcd, IsLcm, lcmOf}
-use Rattle.fraction.specs.Gcd.{gcd-flip, gcd-turn}
+use Rattle.fraction.specs.Gcd.{gcd-flip, gcd-step}
 use Rattle.fraction.specs.Lcm.{lcm-is, lcm-zero, lcm-by-gcd}
 use Rattle.fraction.proofs.lcm.Statement.{statement}
 use Rattle.fraction.proofs.lcm.Tie as tie
@@ -16,7 +16,7 @@ due a b e = (e, rw e (lcm-is a b))
 -- by the divisor of a and what Euclid's step leaves of b
 module _ (b : ℕ) {a g : ℕ} (i : IsGcd a (b % a) g) where
   divided : a / g * b ≡ lcmOf a b
-  divided = lcm-by-gcd (gcd-flip (gcd-turn i))
+  divided = lcm-by-gcd (gcd-flip (gcd-step i))
 
   product : g ≡ 1 → a * b ≡ lcmOf a b
   product e = ap (λ n. n * b) (sym (ap (λ n. a / n) e ∙ div-one a)) ∙ divided

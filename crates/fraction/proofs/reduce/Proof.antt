@@ -1,4 +1,4 @@
--- `fraction::reduce` meets its contract. Assumes nothing.
+-- `fraction::reduce` meets its contract.
 use mathlib.Core.Path.{ap}
 use Prim.Native.Nat.{_/_}
 use native.Mathlib.Nat.{pos-of-dvd-of-pos}

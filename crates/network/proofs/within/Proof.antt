@@ -1,10 +1,10 @@
--- `network::within` meets its contract. Assumes nothing.
+-- `network::within` meets its contract.
 use native.Mathlib.Omega.{arith}
 use mathlib.Core.Path.{sym}
 use borrow.Author.Tests.{le-leb}
 use Rattle.lists.specs.Tests.{fails}
-use Rattle.tables.specs.Holds.{within}
-use Rattle.tables.specs.Facts.{within-facts}
+use Rattle.table_spec.specs.Holds.{within}
+use Rattle.table_spec.specs.Facts.{within-facts}
 use Rattle.network.proofs.within.Statement.{statement}
 use Rattle.network.proofs.within.Tie as tie
 

@@ -1,4 +1,4 @@
--- `order_average::compare_all` meets its contract. Assumes nothing.
+-- `order_average::compare_all` meets its contract.
 use Prim.Native.Nat.{_-_, _≤_}
 use borrow.Author.Needs.{needs}
 use Rattle.order_average.proofs.compare_all.Statement.{statement}

@@ -1,4 +1,4 @@
--- `order_average::is_average` meets its contract. Assumes nothing.
+-- `order_average::is_average` meets its contract.
 use native.Mathlib.Omega.{arith}
 use Rattle.order_average.proofs.Products.{product}
 use borrow.Author.Needs.{needs}

@@ -1,6 +1,6 @@
--- `order_average::wrong_numerator` meets its contract. Assumes nothing.
+-- `order_average::wrong_numerator` meets its contract.
 use Prim.Native.Nat.{_-_, _≤_}
-use Rattle.small_networks.specs.Bounds.{most}
+use Rattle.small_networks.specs.SizeBounds.{most}
 use borrow.Author.Needs.{needs}
 use Rattle.order_average.proofs.wrong_numerator.Statement.{statement}
 use Rattle.order_average.proofs.wrong_numerator.Tie as tie

@@ -1,23 +1,23 @@
--- `reader::read` meets its contract. The sections decide, or else the records. Assumes nothing.
+-- `reader::read` meets its contract. The sections decide, or else the records.
 use borrow.Author.Needs.{needs}
 use native.Mathlib.Omega.{arith}
 use mathlib.Core.Path.{_≡_, sym, ap, _∙_}
 use lib.ListN.{length}
 use Rattle.refusals.specs.Outcomes.{gives}
 use Rattle.refusals.specs.Due.{stage-stop}
-use Rattle.format.specs.Bytes.{busCount, lineCount, records}
-use Rattle.format.specs.Sections.{sectionCauses, counts, sectionsOutcome}
-use Rattle.format.specs.Sound.{length-needBytes, length-records}
-use Rattle.file.specs.Answers.{readingSays}
-use Rattle.reading.specs.Read.{recordCauses}
-use Rattle.reading.specs.Recorded.{read-recorded}
-use Rattle.reading.specs.Deciding.{sound, counted, records-decide}
+use Rattle.file_spec.specs.FileBytes.{fileBusCount, fileLineCount, records}
+use Rattle.file_spec.specs.Sections.{sectionCauses, counts, sectionsOutcome}
+use Rattle.file_spec.specs.SoundSections.{length-needBytes, length-records}
+use Rattle.file_sections.specs.FileAnswers.{outcomeOfReading}
+use Rattle.file_spec.specs.ReadOutcome.{recordCauses}
+use Rattle.file_spec.specs.Recorded.{read-recorded}
+use Rattle.file_spec.specs.ReadDecides.{sound, counted, records-decide}
 use Rattle.reader.proofs.read.Statement.{statement}
 use Rattle.reader.proofs.read.Tie as tie
 
 -- where the sections are sound
 judged : (c : tie.After-counts) → sectionsOutcome (c .before .before .before .before .before .args .file .now) ≡ gives (c .counts .given .0 .0)
-judged c = sym (c .before .before .judge .ensures) ∙ ap readingSays (c .counts .given .1)
+judged c = sym (c .before .before .judge .ensures) ∙ ap outcomeOfReading (c .counts .given .1)
 
 needs-requires : tie.Need-needs-requires
 needs-requires c κs = let e = judged (c .before) in (ap (λ n. n .buses) (counted _ e), sound _ e .first .complete)
@@ -42,8 +42,8 @@ returns c =
     let f = a .file .now in
     let t = a .table .now in
     read-recorded f t
-    (stage-stop (sectionCauses f) (counts f) (recordCauses (busCount f) (lineCount f) (records f) (length t))
-    (sym (ap readingSays (c .before .cause .given .1)) ∙ c .before .before .before .judge .ensures))
+    (stage-stop (sectionCauses f) (counts f) (recordCauses (fileBusCount f) (fileLineCount f) (records f) (length t))
+    (sym (ap outcomeOfReading (c .before .cause .given .1)) ∙ c .before .before .before .judge .ensures))
 
 returns-2 : tie.Need-returns-2
 returns-2 c =

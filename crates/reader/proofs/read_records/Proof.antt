@@ -1,4 +1,4 @@
--- `reader::read_records` meets its contract. Assumes nothing.
+-- `reader::read_records` meets its contract.
 use borrow.Author.Needs.{needs}
 use Rattle.lists.specs.Tests.{negated, passed}
 use Rattle.refusals.specs.Due.{stop, pass}

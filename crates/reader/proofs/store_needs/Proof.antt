@@ -1,4 +1,4 @@
--- `reader::store_needs` meets its contract. The loop's invariant: the bus count and the needs passed are stored. Assumes nothing.
+-- `reader::store_needs` meets its contract. The loop's invariant: the bus count and the needs passed are stored.
 use borrow.Author.Needs.{needs}
 use native.Mathlib.Omega.{arith}
 use mathlib.Core.List.{[], _∷_}

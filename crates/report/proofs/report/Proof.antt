@@ -1,4 +1,4 @@
--- `report::report` meets its contract. Assumes nothing.
+-- `report::report` meets its contract.
 use borrow.Author.Needs.{needs}
 use native.Mathlib.Omega.{arith}
 use mathlib.Core.Path.{_≡_, sym, ap, _∙_}
@@ -6,12 +6,12 @@ use Prim.Native.Nat.{ℕ}
 use lib.ListN.{length, replicate, length-replicate}
 use Rattle.lists.specs.Lists.{put}
 use Rattle.refusals.specs.Outcomes.{gives}
-use Rattle.tables.specs.Limits.{maxEntries}
-use Rattle.file.specs.Answers.{readingSays}
-use Rattle.reading.specs.Read.{readOutcome}
-use Rattle.reading.specs.Recorded.{recorded}
+use Rattle.table_spec.specs.Limits.{maxEntries}
+use Rattle.file_sections.specs.FileAnswers.{outcomeOfReading}
+use Rattle.file_spec.specs.ReadOutcome.{readOutcome}
+use Rattle.file_spec.specs.Recorded.{recorded}
 use Rattle.two_way.specs.TwoWay.{networkOf}
-use Rattle.whole_sheet.specs.Whole.{wholeSheet}
+use Rattle.whole_sheet.specs.WholeSheet.{wholeSheet}
 use Rattle.report.specs.Printing.{print-sheet, print-refusal}
 use Rattle.report.proofs.report.Statement.{statement}
 use Rattle.report.proofs.report.Tie as tie
@@ -23,12 +23,12 @@ returns-2 : tie.Need-returns-2
 returns-2 c =
     let q = c .before .before .before in
     let f = q .before .before .before .before .before .before .args .file .now in
-    let p = print-refusal f (replicate maxEntries 0) room (sym (q .before .before .before .read .ensures .0) ∙ ap readingSays (q .cause .given .1)) in
+    let p = print-refusal f (replicate maxEntries 0) room (sym (q .before .before .before .read .ensures .0) ∙ ap outcomeOfReading (q .cause .given .1)) in
     ((c .write-refusal .ensures .0 .0 ∙ ap length p, omega (arith, c .write-refusal .ensures .0 .1, c .write-refusal .kept .1 .0)), c .write-refusal .ensures .1 ∙ ap (put _ 0) p)
 
 -- Read accepted the file
 accepted : (c : tie.After-enum-told) → readOutcome (c .before .before .before .before .before .before .args .file .now) (length (replicate {A = ℕ} maxEntries 0)) ≡ gives (c .enum-told .given .0 .0)
-accepted c = sym (c .before .before .before .read .ensures .0) ∙ ap readingSays (c .enum-told .given .1)
+accepted c = sym (c .before .before .before .read .ensures .0) ∙ ap outcomeOfReading (c .enum-told .given .1)
 
 write-sheet-requires : tie.Need-write-sheet-requires
 write-sheet-requires c κs =

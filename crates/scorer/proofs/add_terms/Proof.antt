@@ -1,4 +1,4 @@
--- `scorer::add_terms` meets its contract. Assumes nothing.
+-- `scorer::add_terms` meets its contract.
 use borrow.Author.Needs.{needs}
 use native.Mathlib.Omega.{arith}
 use mathlib.Core.Path.{_≡_, ap, _∙_}
@@ -6,12 +6,12 @@ use Prim.Native.Nat.{ℕ, _<_}
 use lib.ListN.{length, getD, length-set}
 use Rattle.lists.specs.Lists.{at}
 use Rattle.game.specs.Game.{neighbour}
-use Rattle.tables.specs.Layout.{degree}
-use Rattle.formula.specs.Tables.{gameOf}
-use Rattle.formula.specs.Played.{degree-few}
-use Rattle.terms.specs.Unit.{unit}
-use Rattle.terms.specs.Terms.{term-asks, term-read}
-use Rattle.scorer.specs.Work.{degrees}
+use Rattle.table_spec.specs.Layout.{degree}
+use Rattle.share_spec.specs.TableNetwork.{gameOf}
+use Rattle.share_spec.specs.TableGame.{degree-le}
+use Rattle.share_terms.specs.Unit.{unit}
+use Rattle.share_terms.specs.TermUnits.{term-asks, term-read}
+use Rattle.scorer.specs.ScorerWork.{degrees}
 use Rattle.scorer.proofs.Summing.{rest-fits}
 use Rattle.scorer.proofs.Scoring.{row-room, terms-added}
 use Rattle.scorer.proofs.add_terms.Statement.{statement}
@@ -29,7 +29,7 @@ module _ (c : tie.After-need) where
   degree-is = ap length (c .before .neighbours .ensures)
 
   degree-fits : d < degrees
-  degree-fits = omega (arith, degree-is, degree-few (start .pre .0 .0) (start .args .bus) (start .pre .0 .1))
+  degree-fits = omega (arith, degree-is, degree-le (start .pre .0 .0) (start .args .bus) (start .pre .0 .1))
 
   unit-is : getD (start .args .units .now) d 0 ≡ unit (start .args .over) d
   unfolding at
@@ -49,7 +49,7 @@ mul-numerators : tie.Need-mul-numerators
 mul-numerators c =
     let n = c .before .before in
     let s = start n in
-    omega (arith, rest-fits (s .pre .0 .0) (s .pre .0 .2) (s .pre .0 .1) (n .before .neighbours .ensures) (gives c), s .pre .0 .2 .few)
+    omega (arith, rest-fits (s .pre .0 .0) (s .pre .0 .2) (s .pre .0 .1) (n .before .neighbours .ensures) (gives c), s .pre .0 .2 .bounded)
 
 sub-numerators : tie.Need-sub-numerators
 sub-numerators c =

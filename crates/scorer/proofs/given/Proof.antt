@@ -1,11 +1,11 @@
--- `scorer::given` meets its contract. Assumes nothing.
+-- `scorer::given` meets its contract.
 use borrow.Author.Needs.{needs}
 use native.Mathlib.Omega.{arith}
 use mathlib.Core.Path.{_≡_, ap}
 use lib.ListN.{length}
-use Rattle.tables.specs.Layout.{degree}
-use Rattle.formula.specs.Played.{degree-few}
-use Rattle.terms.specs.Terms.{term-asks, term-read}
+use Rattle.table_spec.specs.Layout.{degree}
+use Rattle.share_spec.specs.TableGame.{degree-le}
+use Rattle.share_terms.specs.TermUnits.{term-asks, term-read}
 use Rattle.scorer.proofs.given.Statement.{statement}
 use Rattle.scorer.proofs.given.Tie as tie
 
@@ -18,7 +18,7 @@ module _ (c : tie.After-need) where
   degree-is = ap length (c .before .neighbours .ensures)
 
 unit-requires : tie.Need-unit-requires
-unit-requires c κs = let s = start c in omega (arith, degree-is c, degree-few (s .pre .0) (s .args .bus) (s .pre .1))
+unit-requires c κs = let s = start c in omega (arith, degree-is c, degree-le (s .pre .0) (s .args .bus) (s .pre .1))
 
 term-requires : tie.Need-term-requires
 term-requires c κs = let n = c .before in let s = start n in term-asks (s .pre .0) (s .pre .2) (s .pre .1) (degree-is n) (n .need .ensures) (c .unit .ensures)

@@ -1,10 +1,10 @@
--- `scorer::numerator` meets its contract. The loop's invariant: the own term and the terms of the neighbours passed. Assumes nothing.
+-- `scorer::numerator` meets its contract. The loop's invariant: the own term and the terms of the neighbours passed.
 use borrow.Author.Needs.{needs}
 use native.Mathlib.Omega.{arith}
 use mathlib.Core.Path.{_≡_}
 use Prim.Native.Nat.{_-_, _≤_}
 use lib.ListN.{length}
-use Rattle.tables.specs.Layout.{row}
+use Rattle.table_spec.specs.Layout.{row}
 use Rattle.scorer.proofs.Summing.{summed, rest-fits, sum-start, sum-next, sum-fits, sum-end, neighbour-in}
 use Rattle.scorer.proofs.numerator.Statement.{statement}
 use Rattle.scorer.proofs.numerator.Tie as tie

@@ -1,15 +1,15 @@
--- `scorer::score` meets its contract: lines run both ways, so the game's formula is 01's along the bus's own row. Assumes nothing.
+-- `scorer::score` meets its contract: lines run both ways, so the game's formula is the scope's along the bus's own row.
 use borrow.Author.Needs.{needs}
 use mathlib.Core.Path.{ap, _∙_}
 use Rattle.lists.specs.Lists.{put}
 use Rattle.lists.specs.Below.{mapBelow}
-use Rattle.lists.specs.Range.{mapBelow-same}
-use Rattle.tables.specs.Layout.{size}
-use Rattle.formula.specs.Formula.{numeratorOver}
-use Rattle.formula.specs.Fair.{as-game}
-use Rattle.formula.specs.Played.{own-over}
+use Rattle.lists.specs.JoinBelow.{mapBelow-same}
+use Rattle.table_spec.specs.Layout.{busCount}
+use Rattle.share_spec.specs.Formula.{numeratorOver}
+use Rattle.share_spec.specs.FairFormula.{as-game}
+use Rattle.share_spec.specs.TableGame.{own-over}
 use Rattle.two_way.specs.TwoWay.{networkOf}
-use Rattle.two_way.specs.Sound.{watching}
+use Rattle.two_way.specs.TwoWaySound.{watching}
 use Rattle.scorer.proofs.score.Statement.{statement}
 use Rattle.scorer.proofs.score.Tie as tie
 
@@ -28,8 +28,8 @@ returns c =
       d .denominator .ensures,
       p .score-over .ensures
           ∙ ap (put (s .args .numerators .now) 0)
-          (mapBelow-same _ _ (size t) (as-game (watching (w .shape) (w .mirrored)) (d .denominator .result))
-          ∙ ap (λ L. mapBelow (size t) (numeratorOver (networkOf t) L)) (d .denominator .ensures)),
+          (mapBelow-same _ _ (busCount t) (as-game (watching (w .shape) (w .mirrored)) (d .denominator .result))
+          ∙ ap (λ L. mapBelow (busCount t) (numeratorOver (networkOf t) L)) (d .denominator .ensures)),
     )
 
 pub score-spec : {M : Type 1} → statement M

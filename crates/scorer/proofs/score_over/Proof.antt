@@ -1,13 +1,13 @@
--- `scorer::score_over` meets its contract. The loop's invariant: the buses passed have added their terms. Assumes nothing.
+-- `scorer::score_over` meets its contract. The loop's invariant: the buses passed have added their terms.
 use borrow.Author.Needs.{needs}
 use native.Mathlib.Omega.{arith}
 use mathlib.Core.Path.{refl, _∙_}
 use Prim.Native.Nat.{_-_, _≤_}
 use lib.ListN.{length}
 use Rattle.lists.specs.Below.{sumBelow}
-use Rattle.formula.specs.Tables.{gameOf}
-use Rattle.terms.specs.Added.{Added}
-use Rattle.terms.specs.Adding.{added-none, cleared-long}
+use Rattle.share_spec.specs.TableNetwork.{gameOf}
+use Rattle.share_terms.specs.Added.{Added}
+use Rattle.share_terms.specs.Adding.{added-none, cleared-long}
 use Rattle.scorer.proofs.Scoring.{givenBy, bus-added, bus-room, all-added}
 use Rattle.scorer.proofs.score_over.Statement.{statement}
 use Rattle.scorer.proofs.score_over.Tie as tie
@@ -21,33 +21,33 @@ abbrev μ-loop : tie.MeasureT-loop
 abbrev cleared : tie.At-loop Inv-loop μ-loop → tie.After-clear Inv-loop μ-loop
 cleared c = c .before .before .before
 
-abbrev sized : tie.At-loop Inv-loop μ-loop → tie.After-size Inv-loop μ-loop
+abbrev sized : tie.At-loop Inv-loop μ-loop → tie.After-bus-count Inv-loop μ-loop
 sized c = cleared c .before .before .before
 
 abbrev start : tie.At-loop Inv-loop μ-loop → tie.Start Inv-loop μ-loop
 start c = sized c .before .before .before
 
-size-requires : tie.Need-size-requires Inv-loop μ-loop
-size-requires c κs = let z = c .before .before .pre .0 .complete in omega arith
+bus-count-requires : tie.Need-bus-count-requires Inv-loop μ-loop
+bus-count-requires c κs = let z = c .before .before .pre .0 .complete in omega arith
 
 clear-requires : tie.Need-clear-requires Inv-loop μ-loop
-clear-requires c κs = let p = c .before .before in omega (arith, p .before .before .before .pre .1, p .size .ensures .0)
+clear-requires c κs = let p = c .before .before in omega (arith, p .before .before .before .pre .1, p .bus-count .ensures .0)
 
 loop-holds : tie.Need-loop-holds Inv-loop μ-loop
 unfolding sumBelow
 loop-holds c = (search needs, added-none (λ v. refl) _)
 
 -- the entries that were cleared are there
-long : (c : tie.At-loop Inv-loop μ-loop) → sized c .size .result ≤ length (start c .args .numerators .now)
-long c = omega (arith, sized c .size .ensures .0, start c .pre .1)
+long : (c : tie.At-loop Inv-loop μ-loop) → sized c .bus-count .result ≤ length (start c .args .numerators .now)
+long c = omega (arith, sized c .bus-count .ensures .0, start c .pre .1)
 
 add-terms-requires : tie.Need-add-terms-requires Inv-loop μ-loop
 add-terms-requires c κs =
     let i = c .before .before in
     let v = i .before in
     let s = start v in (
-      (s .pre .0, omega (arith, sized v .size .ensures .0, i .loop-test .taken), s .pre .2),
-      (cleared v .before .before .units .ensures, bus-room (s .pre .0) (s .pre .2) (s .args .numerators .now) (sized v .size .ensures .0) (long v) (cleared v .clear .ensures) (v .loop .bus) (v .loop .inv .1) (i .loop-test .taken)),
+      (s .pre .0, omega (arith, sized v .bus-count .ensures .0, i .loop-test .taken), s .pre .2),
+      (cleared v .before .before .units .ensures, bus-room (s .pre .0) (s .pre .2) (s .args .numerators .now) (sized v .bus-count .ensures .0) (long v) (cleared v .clear .ensures) (v .loop .bus) (v .loop .inv .1) (i .loop-test .taken)),
     )
 
 loop-again : tie.Need-loop-again Inv-loop μ-loop
@@ -66,7 +66,7 @@ returns : tie.Need-returns Inv-loop μ-loop
 returns c =
     let v = c .before in
     let s = start v in
-    all-added (s .pre .0) (s .pre .2) (s .args .numerators .now) (sized v .size .ensures .0) (long v) (cleared v .clear .ensures) (v .loop .bus) (v .loop .inv .1) (v .loop .inv .0) (c .loop-test .left)
+    all-added (s .pre .0) (s .pre .2) (s .args .numerators .now) (sized v .bus-count .ensures .0) (long v) (cleared v .clear .ensures) (v .loop .bus) (v .loop .inv .1) (v .loop .inv .0) (c .loop-test .left)
 
 pub score-over-spec : {M : Type 1} → statement M
 score-over-spec =
@@ -74,7 +74,7 @@ score-over-spec =
     (tie.spec
     Inv-loop
     μ-loop
-    size-requires
+    bus-count-requires
     (λ c κs. search needs)
     clear-requires
     loop-holds

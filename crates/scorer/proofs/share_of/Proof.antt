@@ -1,7 +1,7 @@
--- `scorer::share_of` meets its contract. Assumes nothing.
+-- `scorer::share_of` meets its contract.
 use borrow.Author.Needs.{needs}
-use Rattle.formula.specs.Played.{own-over}
-use Rattle.shares.specs.Promised.{own-numerator}
+use Rattle.share_spec.specs.TableGame.{own-over}
+use Rattle.share_spec.specs.SharePromises.{own-numerator}
 use Rattle.scorer.proofs.share_of.Statement.{statement}
 use Rattle.scorer.proofs.share_of.Tie as tie
 

@@ -1,4 +1,4 @@
--- `scorer::units` meets its contract. The loop's invariant: the units of the degrees passed are stored. Assumes nothing.
+-- `scorer::units` meets its contract. The loop's invariant: the units of the degrees passed are stored.
 use borrow.Author.Needs.{needs}
 use native.Mathlib.Omega.{arith}
 use mathlib.Core.Path.{_≡_, refl, _∙_}
@@ -6,8 +6,8 @@ use Prim.Native.Nat.{_-_, _≤_}
 use lib.ListN.{length, length-set}
 use Rattle.lists.specs.Lists.{Tabled}
 use Rattle.lists.specs.Loops.{by-end, tabled-next}
-use Rattle.terms.specs.Unit.{unit}
-use Rattle.scorer.specs.Work.{degrees}
+use Rattle.share_terms.specs.Unit.{unit}
+use Rattle.scorer.specs.ScorerWork.{degrees}
 use Rattle.scorer.proofs.units.Statement.{statement}
 use Rattle.scorer.proofs.units.Tie as tie
 

@@ -1,4 +1,4 @@
--- `share_sheet::answer` meets its contract: what is printed lies within the buffer. Assumes nothing.
+-- `share_sheet::answer` meets its contract: what is printed lies within the buffer.
 use borrow.Author.Needs.{needs}
 use mathlib.Core.Path.{sym}
 use lib.Seq.{length-take-le}

@@ -1,4 +1,4 @@
--- `share_sheet::is_text` meets its contract: no index leaves the file. Assumes nothing.
+-- `share_sheet::is_text` meets its contract: no index leaves the file.
 use Prim.Native.Nat.{_≤_, _-_}
 use borrow.Author.Needs.{needs}
 use lib.ListN.{length}

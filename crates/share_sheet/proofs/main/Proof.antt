@@ -1,4 +1,4 @@
--- `share_sheet::main` meets its contract: what is judged lies within the buffer. Assumes nothing.
+-- `share_sheet::main` meets its contract: what is judged lies within the buffer.
 use Prim.Native.Nat.{_≤_}
 use borrow.Author.Needs.{needs}
 use mathlib.Core.Path.{sym, subst}

@@ -1,4 +1,4 @@
--- `share_sheet::read_input` meets its contract: each read puts its bytes behind those that came before. Assumes nothing.
+-- `share_sheet::read_input` meets its contract: each read puts its bytes behind those that came before.
 use Prim.Native.Nat.{_≤_, _-_}
 use native.Mathlib.Nat.{le-refl}
 use mathlib.Core.Path.{_≡_, _∙_, subst}

@@ -1,8 +1,8 @@
--- `share_sheet_c::share_sheet_degree` meets its contract. Assumes nothing.
+-- `share_sheet_c::share_sheet_degree` meets its contract.
 use borrow.Author.Needs.{needs}
 use mathlib.Core.Path.{ap}
-use Rattle.lookup.specs.Answers.{degreeSays}
-use Rattle.share_sheet_c.specs.Telling.{refused, accepted}
+use Rattle.table_lookup.specs.LookupAnswers.{outcomeOfDegree}
+use Rattle.share_sheet_c.specs.StatusLaws.{refused, accepted}
 use Rattle.share_sheet_c.proofs.share_sheet_degree.Statement.{statement}
 use Rattle.share_sheet_c.proofs.share_sheet_degree.Tie as tie
 
@@ -10,14 +10,14 @@ returns : tie.Need-returns
 returns c =
     let m = c .before .before in
     let a = m .before .before in
-    let says = ap degreeSays (m .cause .given .1) in
+    let says = ap outcomeOfDegree (m .cause .given .1) in
     refused says (c .status .ensures) (a .degree .ensures)
 
 returns-2 : tie.Need-returns-2
 returns-2 c =
     let m = c .before in
     let a = m .before .before in
-    let says = ap degreeSays (m .neighbours .given .1) in
+    let says = ap outcomeOfDegree (m .neighbours .given .1) in
     accepted says (a .degree .ensures)
 
 pub share-sheet-degree-spec : {M : Type 1} → statement M

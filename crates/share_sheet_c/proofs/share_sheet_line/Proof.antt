@@ -1,8 +1,8 @@
--- `share_sheet_c::share_sheet_line` meets its contract. Assumes nothing.
+-- `share_sheet_c::share_sheet_line` meets its contract.
 use borrow.Author.Needs.{needs}
 use mathlib.Core.Path.{ap}
-use Rattle.sheet.specs.Answers.{writtenSays}
-use Rattle.share_sheet_c.specs.Telling.{refused, accepted}
+use Rattle.sheet.specs.LineOutcomes.{outcomeOfWritten}
+use Rattle.share_sheet_c.specs.StatusLaws.{refused, accepted}
 use Rattle.share_sheet_c.proofs.share_sheet_line.Statement.{statement}
 use Rattle.share_sheet_c.proofs.share_sheet_line.Tie as tie
 
@@ -10,14 +10,14 @@ returns : tie.Need-returns
 returns c =
     let m = c .before .before in
     let a = m .before .before .before .before in
-    let says = ap writtenSays (m .cause .given .1) in
+    let says = ap outcomeOfWritten (m .cause .given .1) in
     (refused says (c .status .ensures) (a .line .ensures .0), a .line .ensures .1)
 
 returns-2 : tie.Need-returns-2
 returns-2 c =
     let m = c .before in
     let a = m .before .before .before .before in
-    let says = ap writtenSays (m .count .given .1) in
+    let says = ap outcomeOfWritten (m .count .given .1) in
     (accepted says (a .line .ensures .0), a .line .ensures .1)
 
 pub share-sheet-line-spec : {M : Type 1} → statement M

@@ -1,4 +1,4 @@
--- `sheet::line` meets its contract. Assumes nothing.
+-- `sheet::line` meets its contract.
 use borrow.Author.Needs.{needs}
 use native.Mathlib.Omega.{arith}
 use mathlib.Core.Bool.{true}
@@ -7,13 +7,13 @@ use Prim.Native.Nat.{ℕ}
 use lib.ListN.{length, take, replicate, length-replicate}
 use Rattle.lists.specs.Tests.{passed, failed}
 use Rattle.refusals.specs.Due.{below, not-below}
-use Rattle.tables.specs.Holds.{holds}
-use Rattle.tables.specs.Facts.{holds-facts}
-use Rattle.tables.specs.Calls.{no-network, on-held}
+use Rattle.table_spec.specs.Holds.{holds}
+use Rattle.table_spec.specs.Facts.{holds-facts}
+use Rattle.table_spec.specs.TableCauses.{no-network, on-held}
 use Rattle.two_way.specs.TwoWay.{networkOf}
 use Rattle.sheet.specs.Sheet.{sheetLine}
-use Rattle.sheet.specs.Work.{longestLine}
-use Rattle.sheet.specs.Calls.{written-front, due-text, line-due}
+use Rattle.sheet.specs.LineRoom.{longestLine}
+use Rattle.sheet.specs.LineDue.{written-front, due-text, line-due}
 use Rattle.sheet.proofs.line.Statement.{statement}
 use Rattle.sheet.proofs.line.Tie as tie
 
@@ -26,26 +26,26 @@ returns c =
     let a = c .before .before .before .before .args in
     line-due (networkOf (a .table .now)) (a .i) (a .out .now) (no-network (failed (c .before .holds .ensures) (c .if1 .taken)))
 
-size-requires : tie.Need-size-requires
-size-requires c κs = let z = holds-facts _ (held c) .shape .complete in omega arith
+bus-count-requires : tie.Need-bus-count-requires
+bus-count-requires c κs = let z = holds-facts _ (held c) .shape .complete in omega arith
 
 returns-2 : tie.Need-returns-2
 returns-2 c =
     let a = c .before .before .before .before .before .before .args in
-    line-due (networkOf (a .table .now)) (a .i) (a .out .now) (on-held (held (c .before .before)) (below (c .before .size .ensures .0) refl (c .if2 .taken)))
+    line-due (networkOf (a .table .now)) (a .i) (a .out .now) (on-held (held (c .before .before)) (below (c .before .bus-count .ensures .0) refl (c .if2 .taken)))
 
 write-line-requires : tie.Need-write-line-requires
 write-line-requires c κs =
     let e = c .before in
-    (holds-facts _ (held (e .before .before)), omega (arith, e .before .size .ensures .0, e .if2 .left), omega (arith, length-replicate {A = ℕ} longestLine 0))
+    (holds-facts _ (held (e .before .before)), omega (arith, e .before .bus-count .ensures .0, e .if2 .left), omega (arith, length-replicate {A = ℕ} longestLine 0))
 
 -- the line was written aside
 aside : (c : tie.After-write-line) → let a = c .before .before .before .before .before .before .before .before .args in
     take (c .write-line .result) (c .write-line .last .1 .1 .0) ≡ sheetLine (networkOf (a .table .now)) (a .i)
 aside c = written-front _ (replicate longestLine 0) (c .write-line .ensures .0 .0) (c .write-line .ensures .1)
 
-slice-aggregate-place : tie.Need-slice-aggregate-place
-slice-aggregate-place c = let w = c .before .before in w .write-line .ensures .0 .0 ∙ sym (ap length (aside w))
+slice-aggregate-copy-text : tie.Need-slice-aggregate-copy-text
+slice-aggregate-copy-text c = let w = c .before .before in w .write-line .ensures .0 .0 ∙ sym (ap length (aside w))
 
 returns-3 : tie.Need-returns-3
 returns-3 c =
@@ -54,7 +54,7 @@ returns-3 c =
     let e = w .before .before in
     let a = e .before .before .before .before .before .before .args in
     line-due (networkOf (a .table .now)) (a .i) (a .out .now)
-    (on-held (held (e .before .before)) (not-below (e .before .size .ensures .0) refl (e .if2 .left) (due-text _ _ (aside w) (p .place .ensures))))
+    (on-held (held (e .before .before)) (not-below (e .before .bus-count .ensures .0) refl (e .if2 .left) (due-text _ _ (aside w) (p .copy-text .ensures))))
 
 pub line-spec : {M : Type 1} → statement M
 line-spec =
@@ -62,12 +62,12 @@ line-spec =
     (tie.spec
     (λ c κs. search needs)
     returns
-    size-requires
+    bus-count-requires
     returns-2
     (λ c. search needs)
     write-line-requires
     (λ c. search needs)
-    slice-aggregate-place
+    slice-aggregate-copy-text
     (λ c κs. search needs)
     (λ c. search needs)
     returns-3)

@@ -1,4 +1,4 @@
--- `sheet::write_bus` meets its contract. Assumes nothing.
+-- `sheet::write_bus` meets its contract.
 use borrow.Author.Needs.{needs}
 use native.Mathlib.Omega.{arith}
 use mathlib.Core.List.{[], _∷_}
@@ -6,16 +6,16 @@ use mathlib.Core.Path.{_≡_, ap}
 use Prim.Native.Nat.{suc}
 use lib.ListN.{length}
 use Rattle.text.specs.Text.{filled}
-use Rattle.formula.specs.Played.{own-some}
+use Rattle.share_spec.specs.TableGame.{own-pos}
 use Rattle.two_way.specs.TwoWay.{networkOf}
 use Rattle.sheet.specs.Sheet.{busForm, sheetLine}
-use Rattle.sheet.specs.Fits.{held-short}
-use Rattle.sheet.specs.Lines.{bus-read, line-room, line-written}
+use Rattle.sheet.specs.LineFits.{held-short}
+use Rattle.sheet.specs.LineWriting.{bus-read, line-room, line-written}
 use Rattle.sheet.proofs.write_bus.Statement.{statement}
 use Rattle.sheet.proofs.write_bus.Tie as tie
 
 reduce-requires : tie.Need-reduce-requires
-reduce-requires c κs = let s = c .before .before .before .before in omega (arith, own-some (s .pre .0 .0 .shape), s .pre .1 .0)
+reduce-requires c κs = let s = c .before .before .before .before in omega (arith, own-pos (s .pre .0 .0 .shape), s .pre .1 .0)
 
 -- the text that is filled in is the line of the bus
 module _ (c : tie.After-reduce) where
@@ -34,10 +34,10 @@ returns c =
     let f = c .before .before in
     let r = f .before .before .before .before in
     let s = start r in
-    line-written (held-short (s .pre .0 .0)) (s .pre .0 .1) (text r) (s .args .out .now) (s .args .at) (f .fill .ensures .0) (f .fill .ensures .1)
+    line-written (held-short (s .pre .0 .0)) (s .pre .0 .1) (text r) (s .args .out .now) (s .args .at) (f .fill-template .ensures .0) (f .fill-template .ensures .1)
 
-fill-requires : tie.Need-fill-requires
-fill-requires c κs =
+fill-template-requires : tie.Need-fill-template-requires
+fill-template-requires c κs =
     let r = c .before .before .before in
     let s = start r in
     (omega arith, line-room (held-short (s .pre .0 .0)) (s .pre .0 .1) (text r) (s .args .at) (s .pre .0 .2))
@@ -51,6 +51,6 @@ write-bus-spec =
     reduce-requires
     (λ c. search needs)
     (λ c. search needs)
-    fill-requires
+    fill-template-requires
     (λ c. search needs)
     returns)

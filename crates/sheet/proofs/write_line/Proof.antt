@@ -1,10 +1,10 @@
--- `sheet::write_line` meets its contract. Assumes nothing.
+-- `sheet::write_line` meets its contract.
 use borrow.Author.Needs.{needs}
 use native.Mathlib.Omega.{arith}
 use mathlib.Core.Path.{_≡_}
 use Prim.Native.Nat.{suc, _-_}
 use Rattle.two_way.specs.TwoWay.{networkOf}
-use Rattle.sheet.specs.Lines.{line-front}
+use Rattle.sheet.specs.LineWriting.{line-front}
 use Rattle.sheet.proofs.write_line.Statement.{statement}
 use Rattle.sheet.proofs.write_line.Tie as tie
 

@@ -1,4 +1,4 @@
--- `small_networks::neighbours` meets its contract. Assumes nothing.
+-- `small_networks::neighbours` meets its contract.
 use Prim.Native.Nat.{_-_, _≤_, _<_}
 use borrow.Author.Needs.{needs}
 use Rattle.small_networks.proofs.neighbours.Statement.{statement}

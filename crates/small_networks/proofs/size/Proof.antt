@@ -1,4 +1,4 @@
--- `small_networks::size` meets its contract. Assumes nothing.
+-- `small_networks::size` meets its contract.
 use borrow.Author.Needs.{needs}
 use lib.Count.{ones-le}
 use Rattle.small_networks.proofs.size.Statement.{statement}

@@ -1,4 +1,4 @@
--- `text::decimal`, which calls itself, meets its contract. The measure is the number. Assumes nothing.
+-- `text::decimal`, which calls itself, meets its contract. The measure is the number.
 use borrow.Author.Needs.{needs}
 use native.Mathlib.Omega.{arith}
 use mathlib.Core.List.{[]}

@@ -1,4 +1,4 @@
--- `whole_sheet::whole` meets its contract. Assumes nothing.
+-- `whole_sheet::whole` meets its contract.
 use borrow.Author.Needs.{needs}
 use native.Mathlib.Omega.{arith}
 use mathlib.Core.Bool.{true}
@@ -6,14 +6,14 @@ use mathlib.Core.Path.{_≡_, sym, ap, _∙_}
 use Prim.Native.Nat.{ℕ}
 use lib.ListN.{length, take, replicate, length-replicate}
 use Rattle.lists.specs.Tests.{passed, failed}
-use Rattle.tables.specs.Holds.{holds}
-use Rattle.tables.specs.Facts.{holds-facts}
-use Rattle.tables.specs.Calls.{on-held}
+use Rattle.table_spec.specs.Holds.{holds}
+use Rattle.table_spec.specs.Facts.{holds-facts}
+use Rattle.table_spec.specs.TableCauses.{on-held}
 use Rattle.two_way.specs.TwoWay.{networkOf}
-use Rattle.sheet.specs.Calls.{written-front, due-text}
-use Rattle.whole_sheet.specs.Whole.{wholeSheet}
-use Rattle.whole_sheet.specs.Work.{longestSheet}
-use Rattle.whole_sheet.specs.Calls.{sheet-due, none-held}
+use Rattle.sheet.specs.LineDue.{written-front, due-text}
+use Rattle.whole_sheet.specs.WholeSheet.{wholeSheet}
+use Rattle.whole_sheet.specs.SheetRoom.{longestSheet}
+use Rattle.whole_sheet.specs.SheetDue.{sheet-due, none-held}
 use Rattle.whole_sheet.proofs.whole.Statement.{statement}
 use Rattle.whole_sheet.proofs.whole.Tie as tie
 
@@ -31,15 +31,15 @@ aside c = written-front _ (replicate longestSheet 0) (c .write-sheet .ensures .0
 returns : tie.Need-returns
 returns c = none-held (networkOf (c .before .before .before .before .args .table .now)) _ (failed (c .before .holds .ensures) (c .if1 .taken))
 
-slice-aggregate-place : tie.Need-slice-aggregate-place
-slice-aggregate-place c = let w = c .before .before in w .write-sheet .ensures .0 .0 ∙ sym (ap length (aside w))
+slice-aggregate-copy-text : tie.Need-slice-aggregate-copy-text
+slice-aggregate-copy-text c = let w = c .before .before in w .write-sheet .ensures .0 .0 ∙ sym (ap length (aside w))
 
 returns-2 : tie.Need-returns-2
 returns-2 c =
     let p = c .before .before in
     let w = p .before .before .before .before in
     let a = w .before .before .before .before .before .before .args in
-    sheet-due (networkOf (a .table .now)) (a .out .now) (on-held (held (w .before .before)) (due-text _ _ (aside w) (p .place .ensures)))
+    sheet-due (networkOf (a .table .now)) (a .out .now) (on-held (held (w .before .before)) (due-text _ _ (aside w) (p .copy-text .ensures)))
 
 pub whole-spec : {M : Type 1} → statement M
 whole-spec =
@@ -50,7 +50,7 @@ whole-spec =
     (λ c. search needs)
     write-sheet-requires
     (λ c. search needs)
-    slice-aggregate-place
+    slice-aggregate-copy-text
     (λ c κs. search needs)
     (λ c. search needs)
     returns-2)

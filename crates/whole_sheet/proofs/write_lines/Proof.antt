@@ -1,4 +1,4 @@
--- `whole_sheet::write_lines` meets its contract. The loop's invariant: the lines of the buses passed are written behind the heading. Assumes nothing.
+-- `whole_sheet::write_lines` meets its contract. The loop's invariant: the lines of the buses passed are written behind the heading.
 use borrow.Author.Needs.{needs}
 use native.Mathlib.Omega.{arith}
 use mathlib.Core.Path.{_≡_, sym, ap, _∙_}
@@ -8,12 +8,12 @@ use Rattle.lists.specs.Lists.{at, put}
 use Rattle.lists.specs.Below.{joinBelow}
 use Rattle.lists.specs.Loops.{joinBelow-next}
 use Rattle.lists.specs.Writes.{put-none, stored-length, stored-list}
-use Rattle.tables.specs.Limits.{maxBuses}
-use Rattle.tables.specs.Layout.{size}
+use Rattle.table_spec.specs.Limits.{maxBuses}
+use Rattle.table_spec.specs.Layout.{busCount}
 use Rattle.two_way.specs.TwoWay.{networkOf}
 use Rattle.sheet.specs.Sheet.{sheetLine}
-use Rattle.sheet.specs.Work.{longestLine}
-use Rattle.whole_sheet.specs.Lines.{busLines, all-written}
+use Rattle.sheet.specs.LineRoom.{longestLine}
+use Rattle.whole_sheet.specs.SheetWriting.{busLines, all-written}
 use Rattle.whole_sheet.proofs.write_lines.Statement.{statement}
 use Rattle.whole_sheet.proofs.write_lines.Tie as tie
 
@@ -25,8 +25,8 @@ Inv-loop table over numerators out₀ n end₀ bus₀ out end bus =
 abbrev μ-loop : tie.MeasureT-loop
 μ-loop table over numerators out₀ n end₀ bus₀ out end bus = n - bus
 
-size-requires : tie.Need-size-requires Inv-loop μ-loop
-size-requires c κs = let z = c .before .before .before .pre .0 .shape .complete in omega arith
+bus-count-requires : tie.Need-bus-count-requires Inv-loop μ-loop
+bus-count-requires c κs = let z = c .before .before .before .pre .0 .shape .complete in omega arith
 
 write-heading-requires : tie.Need-write-heading-requires Inv-loop μ-loop
 write-heading-requires c κs = let s = c .before .before .before .before .before in (s .pre .0, s .pre .1 .over, omega (arith, s .pre .2))
@@ -43,8 +43,8 @@ module _ (v : tie.At-loop Inv-loop μ-loop) where
   abbrev start : tie.Start Inv-loop μ-loop
   start = headed .before .before .before .before .before .before
 
-  few : headed .before .before .size .result ≤ maxBuses
-  few = omega (arith, headed .before .before .size .ensures .0, start .pre .0 .shape .complete .most)
+  bounded : headed .before .before .bus-count .result ≤ maxBuses
+  bounded = omega (arith, headed .before .before .bus-count .ensures .0, start .pre .0 .shape .complete .most)
 
   headed-kept : length (headed .write-heading .last .1 .1 .0) ≡ length (start .args .out .now)
   headed-kept =
@@ -53,22 +53,22 @@ module _ (v : tie.At-loop Inv-loop μ-loop) where
 
   kept : length (v .loop .out) ≡ length (start .args .out .now)
   kept =
-      stored-length _ _ _ (v .loop .inv .3) (v .loop .inv .1) (omega (arith, headed .write-heading .ensures .0 .1, v .loop .inv .2, v .loop .inv .0, few, start .pre .2, headed-kept))
+      stored-length _ _ _ (v .loop .inv .3) (v .loop .inv .1) (omega (arith, headed .write-heading .ensures .0 .1, v .loop .inv .2, v .loop .inv .0, bounded, start .pre .2, headed-kept))
       ∙ headed-kept
 
 shared-slice-read-write-bus : tie.Need-shared-slice-read-write-bus Inv-loop μ-loop
 shared-slice-read-write-bus c =
     let v = c .before .before in
-    omega (arith, c .before .loop-test .taken, headed v .before .before .size .ensures .0, start v .pre .1 .long)
+    omega (arith, c .before .loop-test .taken, headed v .before .before .bus-count .ensures .0, start v .pre .1 .long)
 
 write-bus-requires : tie.Need-write-bus-requires Inv-loop μ-loop
 unfolding at
 write-bus-requires c κs =
     let v = c .before .before .before in
     let s = start v in
-    let b : v .loop .bus < size (s .args .table .now) = omega (arith, c .before .before .loop-test .taken, headed v .before .before .size .ensures .0) in
+    let b : v .loop .bus < busCount (s .args .table .now) = omega (arith, c .before .before .loop-test .taken, headed v .before .before .bus-count .ensures .0) in
     let room = headed v .write-heading .ensures .0 .1 in (
-      (s .pre .0, b, omega (arith, kept v, room, v .loop .inv .2, few v, c .before .before .loop-test .taken, s .pre .2)),
+      (s .pre .0, b, omega (arith, kept v, room, v .loop .inv .2, bounded v, c .before .before .loop-test .taken, s .pre .2)),
       (s .pre .1 .over, s .pre .1 .each (v .loop .bus) b),
     )
 
@@ -92,9 +92,9 @@ returns c =
     let v = c .before in
     let s = start v in
     let h = headed v .write-heading .ensures in
-    let all : v .loop .bus ≡ size (s .args .table .now) = omega (arith, headed v .before .before .size .ensures .0, v .loop .inv .0, c .loop-test .left) in
+    let all : v .loop .bus ≡ busCount (s .args .table .now) = omega (arith, headed v .before .before .bus-count .ensures .0, v .loop .inv .0, c .loop-test .left) in
     let w = all-written (networkOf (s .args .table .now)) (s .args .out .now) (h .0 .0) (h .1) all (v .loop .inv .1) (v .loop .inv .3) in
-    ((w .0, omega (arith, h .0 .1, v .loop .inv .2, v .loop .inv .0, few v)), w .1)
+    ((w .0, omega (arith, h .0 .1, v .loop .inv .2, v .loop .inv .0, bounded v)), w .1)
 
 pub write-lines-spec : {M : Type 1} → statement M
 write-lines-spec =
@@ -102,7 +102,7 @@ write-lines-spec =
     (tie.spec
     Inv-loop
     μ-loop
-    size-requires
+    bus-count-requires
     write-heading-requires
     loop-holds
     (λ c. search needs)

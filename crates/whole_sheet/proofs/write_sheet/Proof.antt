@@ -1,11 +1,11 @@
--- `whole_sheet::write_sheet` meets its contract. Assumes nothing.
+-- `whole_sheet::write_sheet` meets its contract.
 use borrow.Author.Needs.{needs}
 use native.Mathlib.Omega.{arith}
 use Prim.Native.Nat.{ℕ}
 use lib.ListN.{replicate, length-replicate}
-use Rattle.tables.specs.Limits.{maxBuses}
+use Rattle.table_spec.specs.Limits.{maxBuses}
 use Rattle.two_way.specs.TwoWay.{networkOf}
-use Rattle.whole_sheet.specs.Lines.{scored}
+use Rattle.whole_sheet.specs.SheetWriting.{scored}
 use Rattle.whole_sheet.proofs.write_sheet.Statement.{statement}
 use Rattle.whole_sheet.proofs.write_sheet.Tie as tie
 

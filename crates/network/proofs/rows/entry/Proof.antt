@@ -1,4 +1,4 @@
--- `network::rows::entry` meets its contract. Assumes nothing.
+-- `network::rows::entry` meets its contract.
 use borrow.Author.Needs.{needs}
 use native.Mathlib.Omega.{arith}
 use Rattle.lists.specs.Lists.{at}

@@ -1,6 +1,6 @@
--- `network::rows::row_at` meets its contract. Assumes nothing.
+-- `network::rows::row_at` meets its contract.
 use borrow.Author.Needs.{needs}
-use Rattle.tables.specs.Rows.{row-read}
+use Rattle.table_spec.specs.Rows.{row-read}
 use Rattle.network.proofs.rows.row_at.Statement.{statement}
 use Rattle.network.proofs.rows.row_at.Tie as tie
 

@@ -1,10 +1,10 @@
--- `network::table::need` meets its contract. Assumes nothing.
+-- `network::table::need` meets its contract.
 use borrow.Author.Needs.{needs}
 use native.Mathlib.Omega.{arith}
 use mathlib.Core.Path.{ap, _∙_}
 use lib.ListN.{length}
 use Rattle.lists.specs.Lists.{at}
-use Rattle.tables.specs.Rows.{length-needs}
+use Rattle.table_spec.specs.Rows.{length-needs}
 use Rattle.network.proofs.table.need.Statement.{statement}
 use Rattle.network.proofs.table.need.Tie as tie
 

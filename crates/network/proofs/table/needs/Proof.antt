@@ -1,11 +1,11 @@
--- `network::table::needs` meets its contract. Assumes nothing.
+-- `network::table::needs` meets its contract.
 use borrow.Author.Needs.{needs}
-use Rattle.tables.specs.Rows.{needs-read}
+use Rattle.table_spec.specs.Rows.{needs-read}
 use Rattle.network.proofs.table.needs.Statement.{statement}
 use Rattle.network.proofs.table.needs.Tie as tie
 
 returns : tie.Need-returns
-returns c = needs-read _ (c .before .size .ensures .0)
+returns c = needs-read _ (c .before .bus-count .ensures .0)
 
 pub needs-spec : {M : Type 1} → statement M
 needs-spec =

@@ -1,10 +1,10 @@
--- `network::table::row_start` meets its contract. Assumes nothing.
+-- `network::table::row_start` meets its contract.
 use borrow.Author.Needs.{needs}
 use native.Mathlib.Omega.{arith}
 use mathlib.Core.Path.{ap}
 use lib.ListN.{length}
-use Rattle.tables.specs.Holds.{Complete}
-use Rattle.tables.specs.Rows.{length-starts, start-read}
+use Rattle.table_spec.specs.Holds.{Complete}
+use Rattle.table_spec.specs.Rows.{length-starts, start-read}
 use Rattle.network.proofs.table.row_start.Statement.{statement}
 use Rattle.network.proofs.table.row_start.Tie as tie
 
@@ -22,7 +22,7 @@ entry-requires c κs =
 returns : tie.Need-returns
 returns c =
     let n = c .before .before in
-    start-read _ _ (n .before .starts-at .ensures .0) (n .size .ensures .0) (c .before .starts .ensures) (c .entry .ensures .0)
+    start-read _ _ (n .before .starts-at .ensures .0) (n .bus-count .ensures .0) (c .before .starts .ensures) (c .entry .ensures .0)
 
 pub row-start-spec : {M : Type 1} → statement M
 row-start-spec =

@@ -1,4 +1,4 @@
--- `small_networks::average::all_orders` meets its contract. Assumes nothing.
+-- `small_networks::average::all_orders` meets its contract.
 use Prim.Native.Nat.{_-_, _≤_}
 use mathlib.Core.Logic.{⊎-elim}
 use borrow.Author.Needs.{needs}

@@ -1,4 +1,4 @@
--- `small_networks::average::fit` meets its contract. Assumes nothing.
+-- `small_networks::average::fit` meets its contract.
 use borrow.Author.Needs.{needs}
 use Rattle.small_networks.proofs.average.fit.Statement.{statement}
 use Rattle.small_networks.proofs.average.fit.Tie as tie

@@ -1,7 +1,7 @@
--- `small_networks::average::next` meets its contract. The loop counts buses. Assumes nothing.
+-- `small_networks::average::next` meets its contract. The loop counts buses.
 use borrow.Author.Needs.{needs}
 use Prim.Native.Nat.{_-_, _≤_}
-use Rattle.small_networks.specs.Bounds.{most}
+use Rattle.small_networks.specs.SizeBounds.{most}
 use Rattle.small_networks.proofs.average.next.Statement.{statement}
 use Rattle.small_networks.proofs.average.next.Tie as tie
 

@@ -1,8 +1,8 @@
--- `small_networks::average::seen` meets its contract. The loop's invariant: no more buses are seen than were passed. Assumes nothing.
+-- `small_networks::average::seen` meets its contract. The loop's invariant: no more buses are seen than were passed.
 use borrow.Author.Needs.{needs}
 use mathlib.Core.Logic.{⊎-elim}
 use Prim.Native.Nat.{_-_, _≤_}
-use Rattle.small_networks.specs.Bounds.{most}
+use Rattle.small_networks.specs.SizeBounds.{most}
 use Rattle.small_networks.proofs.average.seen.Statement.{statement}
 use Rattle.small_networks.proofs.average.seen.Tie as tie
 

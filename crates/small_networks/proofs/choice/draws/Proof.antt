@@ -1,7 +1,7 @@
--- `small_networks::choice::draws` meets its contract. The loop counts draws. Assumes nothing.
+-- `small_networks::choice::draws` meets its contract. The loop counts draws.
 use borrow.Author.Needs.{needs}
 use Prim.Native.Nat.{_+_, _-_, _*_, _≤_}
-use Rattle.small_networks.specs.Bounds.{most}
+use Rattle.small_networks.specs.SizeBounds.{most}
 use Rattle.small_networks.proofs.choice.draws.Statement.{statement}
 use Rattle.small_networks.proofs.choice.draws.Tie as tie
 

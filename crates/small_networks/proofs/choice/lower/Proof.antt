@@ -1,6 +1,6 @@
--- `small_networks::choice::lower` meets its contract. Assumes nothing.
+-- `small_networks::choice::lower` meets its contract.
 use Prim.Native.Nat.{_-_, _≤_}
-use Rattle.small_networks.specs.Bounds.{most}
+use Rattle.small_networks.specs.SizeBounds.{most}
 use borrow.Author.Needs.{needs}
 use Rattle.small_networks.proofs.choice.lower.Statement.{statement}
 use Rattle.small_networks.proofs.choice.lower.Tie as tie

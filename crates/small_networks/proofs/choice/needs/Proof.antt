@@ -1,9 +1,9 @@
--- `small_networks::choice::needs` meets its contract. Assumes nothing.
+-- `small_networks::choice::needs` meets its contract.
 use native.Mathlib.Omega.{arith}
 use native.Mathlib.Nat.{mod-lt}
 use lib.ListN.{getD}
 use Prim.Native.Nat.{_+_, _-_, _%_, _≤_, _<_}
-use Rattle.small_networks.specs.Bounds.{most}
+use Rattle.small_networks.specs.SizeBounds.{most}
 use borrow.Author.Needs.{needs}
 use Rattle.small_networks.proofs.choice.needs.Statement.{statement}
 use Rattle.small_networks.proofs.choice.needs.Tie as tie

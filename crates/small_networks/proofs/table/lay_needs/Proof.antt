@@ -1,7 +1,7 @@
--- `small_networks::table::lay_needs` meets its contract. The loop's invariant: it ends at the seventh bus at most. Assumes nothing.
+-- `small_networks::table::lay_needs` meets its contract. The loop's invariant: it ends at the seventh bus at most.
 use borrow.Author.Needs.{needs}
 use Prim.Native.Nat.{_-_, _≤_}
-use Rattle.small_networks.specs.Bounds.{most}
+use Rattle.small_networks.specs.SizeBounds.{most}
 use Rattle.small_networks.proofs.table.lay_needs.Statement.{statement}
 use Rattle.small_networks.proofs.table.lay_needs.Tie as tie
 

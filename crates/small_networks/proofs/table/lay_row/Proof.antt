@@ -1,8 +1,8 @@
--- `small_networks::table::lay_row` meets its contract. The loop's invariant: no more neighbours are laid than buses were passed. Assumes nothing.
+-- `small_networks::table::lay_row` meets its contract. The loop's invariant: no more neighbours are laid than buses were passed.
 use borrow.Author.Needs.{needs}
 use mathlib.Core.Logic.{⊎-elim}
 use Prim.Native.Nat.{_+_, _-_, _≤_}
-use Rattle.small_networks.specs.Bounds.{most}
+use Rattle.small_networks.specs.SizeBounds.{most}
 use Rattle.small_networks.proofs.table.lay_row.Statement.{statement}
 use Rattle.small_networks.proofs.table.lay_row.Tie as tie
 

@@ -1,7 +1,7 @@
--- `small_networks::table::lay_rows` meets its contract. The loop's invariant: each bus passed took as many places as there are buses at most. Assumes nothing.
+-- `small_networks::table::lay_rows` meets its contract. The loop's invariant: each bus passed took as many places as there are buses at most.
 use borrow.Author.Needs.{needs}
 use Prim.Native.Nat.{_+_, _-_, _*_, _≤_}
-use Rattle.small_networks.specs.Bounds.{most}
+use Rattle.small_networks.specs.SizeBounds.{most}
 use Rattle.small_networks.proofs.table.lay_rows.Statement.{statement}
 use Rattle.small_networks.proofs.table.lay_rows.Tie as tie
 

@@ -1,2 +1,0 @@
--- What answers on a file stand for.
-pub mod Answers

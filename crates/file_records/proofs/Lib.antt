@@ -1,0 +1,2 @@
+pub mod CountingNames
+pub mod AddingRecords

@@ -1,0 +1,2 @@
+-- What the steps that add records promise one another.
+pub mod RecordsInSlots

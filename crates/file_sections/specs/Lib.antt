@@ -1,0 +1,2 @@
+-- The outcomes that answers on a file stand for.
+pub mod FileAnswers

@@ -1,0 +1,199 @@
+// The network file: where it has what, and whether its counts, its needs and the ends of its records are sound.
+ghost use mathlib.Core.List.{_++_};
+ghost use mathlib.Core.Path.{_≡_};
+ghost use Prim.Native.Nat.{_+_, _*_, _≤_, _<_};
+ghost use lib.ListN.{length};
+ghost use Rattle.refusals.specs.Outcomes.{outcome};
+ghost use Rattle.table_spec.specs.Limits.{maxBuses, maxLines};
+ghost use Rattle.table_spec.specs.Holds.{needsInRange};
+ghost use Rattle.file_spec.specs.FileBytes.{wordAt, fileBusCount, needsEnd, needBytes, fileLineCount, fileEnd, records, firstEnd, secondEnd};
+ghost use Rattle.file_spec.specs.Sections.{busSectionCauses, lineCountCauses, missingCauses, endCauses, lineSectionCauses, counts, sectionsOutcome, twoBuses, soundEnds};
+ghost use Rattle.file_spec.specs.SoundSections.{SoundSections};
+ghost use Rattle.file_sections.specs.FileAnswers.{outcomeOfCount, outcomeOfReading};
+pub use network::Counts;
+use network::Network;
+pub use network::Refusal;
+use network::within;
+
+// A count of a file, or why the file is refused.
+pub enum Counted {
+    Is(usize),
+    Refused(Refusal),
+}
+
+// The counts of a file's network, or why the file is refused.
+pub enum Reading {
+    Accepted(Counts),
+    Refused(Refusal),
+}
+
+// The two bus numbers of a record.
+pub struct Ends {
+    pub first: usize,
+    pub second: usize,
+}
+
+// The two-byte number at place i, low byte first.
+pub fn word(bytes: &[u8], i: usize) -> usize
+    requires { ⌜ i + 1 < length (now bytes) ⌝ }
+    ensures { λ r. ⌜ (r ≡ wordAt (now (bytes .entry)) i) × (r < 65536) ⌝ }
+{
+    let low = bytes[i] as usize;
+    let high = bytes[i + 1] as usize;
+    low + high * 256
+}
+
+// The need bytes of a file of n buses.
+pub fn needs(file: &[u8], n: usize) -> &[u8]
+    requires { ⌜ (n ≡ fileBusCount (now file)) × (needsEnd (now file) ≤ length (now file)) ⌝ }
+    ensures { λ r. ⌜ now r ≡ needBytes (now (file .entry)) ⌝ }
+{
+    &file[2..2 + n]
+}
+
+// The bytes of the records of a file of n buses.
+pub fn records(file: &[u8], n: usize) -> &[u8]
+    requires { ⌜ (n ≡ fileBusCount (now file)) × SoundSections (now file) ⌝ }
+    ensures { λ r. ⌜ now r ≡ records (now (file .entry)) ⌝ }
+{
+    &file[2 + n + 2..file.len()]
+}
+
+// Whether every need is one that a bus may have.
+fn needs_in_range(needs: &[u8]) -> bool
+    ensures { λ b. ⌜ b ≡ needsInRange (now (needs .entry)) ⌝ }
+{
+    let mut bus = 0;
+    while bus < needs.len() {
+        if !within(1, Network::NEED, needs[bus] as usize) {
+            return false;
+        }
+        bus += 1;
+    }
+    true
+}
+
+// The bus count of a file, if that and the needs are sound.
+pub fn bus_section(file: &[u8]) -> Counted
+    ensures { λ r. ⌜ outcomeOfCount r ≡ outcome (busSectionCauses (now (file .entry))) (fileBusCount (now (file .entry))) ⌝ }
+{
+    if file.len() < 2 {
+        return Counted::Refused(Refusal::FileTooShort);
+    }
+    let n = word(file, 0);
+    if !within(1, Network::BUSES, n) {
+        return Counted::Refused(Refusal::BusCount);
+    }
+    if file.len() < 2 + n {
+        return Counted::Refused(Refusal::FileTooShort);
+    }
+    if !needs_in_range(needs(file, n)) {
+        return Counted::Refused(Refusal::Need);
+    }
+    Counted::Is(n)
+}
+
+// The line count of a file of n buses, if it is sound.
+pub fn line_count(file: &[u8], n: usize) -> Counted
+    requires { ⌜ (n ≡ fileBusCount (now file)) × (n ≤ maxBuses) ⌝ }
+    ensures { λ r. ⌜ outcomeOfCount r ≡ outcome (lineCountCauses (now (file .entry))) (fileLineCount (now (file .entry))) ⌝ }
+{
+    let from = 2 + n;
+    if file.len() < from + 2 {
+        return Counted::Refused(Refusal::FileTooShort);
+    }
+    let m = word(file, from);
+    if !within(0, Network::LINES, m) {
+        return Counted::Refused(Refusal::LineCount);
+    }
+    Counted::Is(m)
+}
+
+// Where the records of a file of n buses and m lines end, if they are complete.
+pub fn records_end(file: &[u8], n: usize, m: usize) -> Counted
+    requires { ⌜ (n ≡ fileBusCount (now file)) × (n ≤ maxBuses) × (m ≡ fileLineCount (now file)) × (m ≤ maxLines) ⌝ }
+    ensures { λ r. ⌜ outcomeOfCount r ≡ outcome (missingCauses (now (file .entry))) (fileEnd (now (file .entry))) ⌝ }
+{
+    let end = 2 + n + 2 + 4 * m;
+    if file.len() < end {
+        return Counted::Refused(Refusal::FileTooShort);
+    }
+    Counted::Is(end)
+}
+
+// Judges where a file of n buses and m lines ends.
+fn judge_end(file: &[u8], n: usize, m: usize) -> Reading
+    requires { ⌜ (n ≡ fileBusCount (now file)) × (n ≤ maxBuses) × (m ≡ fileLineCount (now file)) × (m ≤ maxLines) ⌝ }
+    ensures { λ r. ⌜ outcomeOfReading r ≡ outcome (missingCauses (now (file .entry)) ++ endCauses (now (file .entry))) (counts (now (file .entry))) ⌝ }
+{
+    match records_end(file, n, m) {
+        Counted::Refused(cause) => Reading::Refused(cause),
+        Counted::Is(end) => {
+            if end < file.len() {
+                return Reading::Refused(Refusal::FileTooLong);
+            }
+            Reading::Accepted(Counts { buses: n, lines: m })
+        }
+    }
+}
+
+// Judges what follows the needs of a file of n buses.
+fn judge_lines(file: &[u8], n: usize) -> Reading
+    requires { ⌜ (n ≡ fileBusCount (now file)) × (n ≤ maxBuses) ⌝ }
+    ensures { λ r. ⌜ outcomeOfReading r ≡ outcome (lineSectionCauses (now (file .entry))) (counts (now (file .entry))) ⌝ }
+{
+    match line_count(file, n) {
+        Counted::Refused(cause) => Reading::Refused(cause),
+        Counted::Is(m) => judge_end(file, n, m),
+    }
+}
+
+// Judges all of a file but what its records say.
+pub fn judge(file: &[u8]) -> Reading
+    ensures { λ r. ⌜ outcomeOfReading r ≡ sectionsOutcome (now (file .entry)) ⌝ }
+{
+    match bus_section(file) {
+        Counted::Refused(cause) => Reading::Refused(cause),
+        Counted::Is(n) => judge_lines(file, n),
+    }
+}
+
+// Record k of a section of records.
+pub fn ends_of(section: &[u8], k: usize) -> Ends
+    requires { ⌜ 4 * k + 3 < length (now section) ⌝ }
+    ensures { λ r. ⌜ (r .first ≡ firstEnd (now (section .entry)) k) × (r .second ≡ secondEnd (now (section .entry)) k) ⌝ }
+{
+    let from = 4 * k;
+    let first = word(section, from);
+    let second = word(section, from + 2);
+    Ends { first, second }
+}
+
+// Whether a and b are two different buses below n.
+fn two_buses(n: usize, a: usize, b: usize) -> bool
+    ensures { λ r. ⌜ r ≡ twoBuses n a b ⌝ }
+{
+    if n <= a {
+        return false;
+    }
+    if n <= b {
+        return false;
+    }
+    a != b
+}
+
+// Whether each of m records names two different buses below n.
+pub fn sound_ends(section: &[u8], n: usize, m: usize) -> bool
+    requires { ⌜ 4 * m ≤ length (now section) ⌝ }
+    ensures { λ b. ⌜ b ≡ soundEnds n m (now (section .entry)) ⌝ }
+{
+    let mut k = 0;
+    while k < m {
+        let ends = ends_of(section, k);
+        if !two_buses(n, ends.first, ends.second) {
+            return false;
+        }
+        k += 1;
+    }
+    true
+}

@@ -1,0 +1,69 @@
+-- How the causes of Read decide: the sections, or else the records; and what an accepted file has passed.
+use mathlib.Core.Bool.{true, false}
+use mathlib.Core.List.{List}
+use mathlib.Core.Path.{_≡_, subst, sym}
+use Prim.Native.Nat.{ℕ}
+use borrow.Author.Tests.{not-false}
+use lib.ListN.{length}
+use Rattle.lists.specs.Tests.{or-none}
+use Rattle.lists.specs.Writes.{put-front}
+use Rattle.refusals.specs.Outcomes.{Outcome, gives}
+use Rattle.refusals.specs.Causes.{NoneHolds, no-cause, none-gives, none-numbered, none-both}
+use Rattle.refusals.specs.Due.{Due, stage-pass}
+use Rattle.network.specs.declared.Counts.{Counts}
+use Rattle.file_spec.specs.FileBytes.{fileBusCount, needBytes, fileLineCount, records}
+use Rattle.file_spec.specs.Sections.{sectionCauses, counts, sectionsOutcome, soundEnds}
+use Rattle.file_spec.specs.SoundSections.{SoundSections, sections-passed, length-needBytes}
+use Rattle.file_spec.specs.Records.{degreeTooHigh, repeated}
+use Rattle.file_spec.specs.ReadStages.{RecordsDue}
+use Rattle.file_spec.specs.ReadOutcome.{recordCauses, readCauses, readOutcome, fileTable, storedTable, tableAfter}
+
+-- what is due of Read, where a slice that held t is lent
+abbrev pub ReadDue : List ℕ → List ℕ → Outcome Counts → List ℕ → Type 0
+ReadDue f t = Due (readCauses f (length t)) (counts f) (storedTable f t) t
+
+-- where the sections are sound the records decide
+module _ (f : List ℕ) {c : Counts} (e : sectionsOutcome f ≡ gives c) where
+  pub sound : SoundSections f
+  sound = sections-passed f (no-cause (sectionCauses f) (counts f) e .0)
+
+  pub counted : c ≡ counts f
+  counted = no-cause (sectionCauses f) (counts f) e .1
+
+  pub records-decide : (t : List ℕ) {q r : List ℕ} {m : ℕ} {o : Outcome Counts} {t′ : List ℕ} → q ≡ needBytes f → m ≡ fileLineCount f → r ≡ records f → RecordsDue q m r t o t′
+      → ReadDue f t o t′
+  unfolding storedTable fileTable
+  records-decide t {q} {r} {m} {o} {t′} eq em er d =
+      let n = fileBusCount f in
+      let d = rw (eq, em, er, length-needBytes sound) at d in
+      stage-pass (sectionCauses f) (counts f) (sym e)
+      (subst (λ s. Due (recordCauses n (fileLineCount f) (records f) (length t)) (counts f) s t o t′) (put-front t (fileTable f)) d)
+
+-- an accepted file has passed every test
+module _ (f t : List ℕ) {c : Counts} (e : readOutcome f (length t) ≡ gives c) where
+  abbrev n : ℕ
+  n = fileBusCount f
+
+  abbrev m : ℕ
+  m = fileLineCount f
+
+  abbrev r : List ℕ
+  r = records f
+
+  none : NoneHolds (readCauses f (length t))
+  none = no-cause (readCauses f (length t)) (counts f) e .0
+
+  pub whole : SoundSections f
+  whole = sections-passed f (none-both (sectionCauses f) (recordCauses n m r (length t)) none .0)
+
+  pub sound-ends : soundEnds n m r ≡ true
+  sound-ends = not-false _ (or-none _ _ (none-numbered 6 (readCauses f (length t)) none) .0)
+
+  pub none-too-high : degreeTooHigh n m r ≡ false
+  none-too-high = or-none _ _ (none-numbered 7 (readCauses f (length t)) none) .0
+
+  pub none-repeated : repeated m r ≡ false
+  none-repeated = or-none _ _ (none-numbered 8 (readCauses f (length t)) none) .0
+
+  pub table-stored : tableAfter f t ≡ storedTable f t
+  table-stored = rw (none-gives (readCauses f (length t)) (storedTable f t) none)

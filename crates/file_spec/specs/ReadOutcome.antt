@@ -1,0 +1,66 @@
+-- What Read answers and stores, for every file and every lent slice.
+-- Definitions only.
+use mathlib.Core.Bool.{not}
+use mathlib.Core.List.{List, [], _∷_, _++_}
+use mathlib.Core.Path.{_≡_}
+use Prim.Native.Nat.{ℕ, _<_}
+use lib.Dec.{ltb}
+use lib.ListN.{length, drop}
+use Rattle.lists.specs.Lists.{has}
+use Rattle.refusals.specs.declared.Refusal.the-variants.{LineEnds, DegreeTooHigh, RepeatedLine, TableTooShort}
+use Rattle.refusals.specs.Outcomes.{Outcome, gives, refuses, Cause, _⇒_, outcome, valuesOr}
+use Rattle.table_spec.specs.Layout.{busCount, needs, row, lines, tableEntries, tableOf}
+use Rattle.table_spec.specs.Holds.{Holds}
+use Rattle.network.specs.declared.Counts.{Counts}
+use Rattle.file_spec.specs.FileBytes.{fileBusCount, needBytes, fileLineCount, records}
+use Rattle.file_spec.specs.Sections.{sectionCauses, counts, soundEnds}
+use Rattle.file_spec.specs.Records.{joined, neighbours, degreeTooHigh, repeated}
+
+-- a record names a bus of n or above, or one bus twice
+abbrev pub endsCauses : ℕ → ℕ → List ℕ → List Cause
+endsCauses n m r = (not (soundEnds n m r) ⇒ LineEnds) ∷ []
+
+-- a bus stands in too many records; two records name the same pair
+abbrev pub degreeCauses : ℕ → ℕ → List ℕ → List Cause
+degreeCauses n m r = (degreeTooHigh n m r ⇒ DegreeTooHigh) ∷ (repeated m r ⇒ RepeatedLine) ∷ []
+
+-- too few entries are lent for the table
+abbrev pub roomCauses : ℕ → ℕ → ℕ → List Cause
+roomCauses n m lent = (ltb lent (tableEntries n m) ⇒ TableTooShort) ∷ []
+
+-- each over all records before the next
+abbrev pub recordCauses : ℕ → ℕ → List ℕ → ℕ → List Cause
+recordCauses n m r lent = endsCauses n m r ++ degreeCauses n m r ++ roomCauses n m lent
+
+-- Read checks in file order, then the records
+abbrev pub readCauses : List ℕ → ℕ → List Cause
+readCauses f lent = sectionCauses f ++ recordCauses (fileBusCount f) (fileLineCount f) (records f) lent
+
+-- n and m, or the number of the first cause
+abbrev pub readOutcome : List ℕ → ℕ → Outcome Counts
+readOutcome f lent = outcome (readCauses f lent) (counts f)
+
+-- the file's table: its buses, the needs as recorded, and for each bus the neighbours that the records give it
+unfoldable pub fileTable : List ℕ → List ℕ
+fileTable f = tableOf (fileBusCount f) (needBytes f) (neighbours (fileBusCount f) (fileLineCount f) (records f))
+
+-- in a slice that held t: the file's table, followed by the old rest
+unfoldable pub storedTable : List ℕ → List ℕ → List ℕ
+storedTable f t = fileTable f ++ drop (length (fileTable f)) t
+
+-- what a lent slice that held t holds after Read: accepted, the file's table is stored; refused, what it held
+abbrev pub tableAfter : List ℕ → List ℕ → List ℕ
+tableAfter f t = valuesOr t (outcome (readCauses f (length t)) (storedTable f t))
+
+-- the slice t holds exactly the buses, needs and lines that the file f records
+pub record AsRecorded (f t : List ℕ) : Type 0 where
+  pub holding : Holds t
+  pub buses : busCount t ≡ fileBusCount f
+  pub needed : needs t ≡ needBytes f
+  pub lined : lines t ≡ fileLineCount f
+  pub joining : (i j : ℕ) → i < fileBusCount f → has j (row t i) ≡ joined (fileLineCount f) (records f) i j
+
+-- so it is where the answer accepts the file; where it refuses, the slice holds what it held
+abbrev pub Recorded : List ℕ → List ℕ → Outcome Counts → List ℕ → Type 0
+Recorded f t (gives c) t′ = AsRecorded f t′
+Recorded f t (refuses number) t′ = t′ ≡ t

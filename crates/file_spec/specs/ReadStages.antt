@@ -1,0 +1,28 @@
+-- What the stages of Read behind the sections promise one another.
+-- Definitions only.
+use mathlib.Core.List.{List, _++_}
+use Prim.Native.Nat.{ℕ}
+use lib.ListN.{length}
+use Rattle.lists.specs.Lists.{put}
+use Rattle.refusals.specs.Outcomes.{Outcome, Cause}
+use Rattle.refusals.specs.Due.{Due}
+use Rattle.table_spec.specs.Layout.{tableOf}
+use Rattle.network.specs.declared.Counts.{Counts}
+use Rattle.file_spec.specs.Records.{neighbours}
+use Rattle.file_spec.specs.ReadOutcome.{degreeCauses, roomCauses, recordCauses}
+
+-- buses with the needs q, and m lines that give them these rows: what is answered, and what a slice that held t holds then, where these causes decide
+abbrev pub TableDue : List Cause → List ℕ → ℕ → (ℕ → List ℕ) → List ℕ → Outcome Counts → List ℕ → Type 0
+TableDue cs q m rows t o t′ = Due cs (record { buses = length q; lines = m }) (put t 0 (tableOf (length q) q rows)) t o t′
+
+-- the rows are there: only room is asked for
+abbrev pub RoomDue : List ℕ → ℕ → (ℕ → List ℕ) → List ℕ → Outcome Counts → List ℕ → Type 0
+RoomDue q m rows t o t′ = TableDue (roomCauses (length q) m (length t)) q m rows t o t′
+
+-- the ends of the records r are sound
+abbrev pub LinesDue : List ℕ → ℕ → List ℕ → List ℕ → Outcome Counts → List ℕ → Type 0
+LinesDue q m r t o t′ = TableDue (degreeCauses (length q) m r ++ roomCauses (length q) m (length t)) q m (neighbours (length q) m r) t o t′
+
+-- any records
+abbrev pub RecordsDue : List ℕ → ℕ → List ℕ → List ℕ → Outcome Counts → List ℕ → Type 0
+RecordsDue q m r t o t′ = TableDue (recordCauses (length q) m r (length t)) q m (neighbours (length q) m r) t o t′

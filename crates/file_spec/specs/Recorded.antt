@@ -1,0 +1,100 @@
+-- What Read stored is what the file records, and what it refused left the slice as it was.
+use mathlib.Core.Bool.{true}
+use mathlib.Core.List.{List, _++_}
+use mathlib.Core.Path.{_≡_, sym, ap, subst, _∙_}
+use Prim.Native.Nat.{ℕ, _+_, _*_}
+use native.Mathlib.Omega.{arith}
+use lib.ListN.{length, drop}
+use Rattle.lists.specs.Lists.{has}
+use Rattle.lists.specs.Below.{joinBelow}
+use Rattle.refusals.specs.Outcomes.{Outcome, gives, refuses, valuesOr}
+use Rattle.refusals.specs.Causes.{part-answered}
+use Rattle.refusals.specs.Due.{both}
+use Rattle.table_spec.specs.Layout.{tableEntries, tableOf}
+use Rattle.table_spec.specs.Holds.{Holds}
+use Rattle.table_spec.specs.TableOutcomes.{SameNetwork}
+use Rattle.table_spec.specs.Facts.{needs-facts}
+use Rattle.table_spec.specs.Laid.{length-tableOf, made-busCount, made-needs, made-last, made-row, made-holds, made-beyond}
+use Rattle.table_spec.specs.LineCount.{two-for-each}
+use Rattle.network.specs.declared.Counts.{Counts}
+use Rattle.file_spec.specs.FileBytes.{fileBusCount, needBytes, fileLineCount, records}
+use Rattle.file_spec.specs.Sections.{counts, soundEnds}
+use Rattle.file_spec.specs.SoundSections.{length-needBytes, ends-facts}
+use Rattle.file_spec.specs.Records.{neighbours}
+use Rattle.file_spec.specs.RecordPairs.{joined-sym, rows-length}
+use Rattle.file_spec.specs.RecordNeighbours.{neighbours-valid, neighbours-short, neighbours-joined}
+use Rattle.file_spec.specs.ReadOutcome.{readCauses, readOutcome, fileTable, storedTable, tableAfter, AsRecorded, Recorded}
+use Rattle.file_spec.specs.ReadDecides.{ReadDue, whole, sound-ends, none-too-high, none-repeated, table-stored}
+
+-- a refused Read changes nothing
+pub kept : (f t : List ℕ) {k : ℕ} → readOutcome f (length t) ≡ refuses k → tableAfter f t ≡ t
+kept f t e = sym (ap (valuesOr t) (part-answered (λ c. storedTable f t) (readCauses f (length t)) (counts f) (sym e)))
+
+-- the file is accepted
+module _ (f t : List ℕ) {c : Counts} (e : readOutcome f (length t) ≡ gives c) where
+  abbrev n : ℕ
+  n = fileBusCount f
+
+  abbrev m : ℕ
+  m = fileLineCount f
+
+  abbrev r : List ℕ
+  r = records f
+
+  ends : soundEnds n m r ≡ true
+  ends = sound-ends f t e
+
+  abbrev q : List ℕ
+  q = needBytes f
+
+  abbrev rows : ℕ → List ℕ
+  rows = neighbours n m r
+
+  abbrev rest : List ℕ
+  rest = drop (length (fileTable f)) t
+
+  stored : tableAfter f t ≡ tableOf n q rows ++ rest
+  unfolding storedTable fileTable
+  stored = table-stored f t e
+
+  long : length q ≡ n
+  long = length-needBytes (whole f t e)
+
+  held : Holds (tableOf n q rows ++ rest)
+  held =
+      made-holds n q rows rest long (whole f t e .first .positive) (whole f t e .first .buses) (needs-facts q (whole f t e .first .needs))
+      (λ i b. neighbours-valid n m r ends i) (neighbours-short n m r ends (none-too-high f t e))
+      (λ i j b c. neighbours-joined n m r ends i j ∙ joined-sym m r i j ∙ sym (neighbours-joined n m r ends j i))
+
+  numbers : length (joinBelow n rows) ≡ 2 * m
+  numbers = rows-length n m r (ends-facts n m r ends) (none-repeated f t e)
+
+  -- the table has as many entries as refusal 10 asks for
+  pub entries : length (fileTable f) ≡ tableEntries n m
+  unfolding fileTable
+  entries = omega (arith, length-tableOf n q rows long, numbers)
+
+  -- the slice holds exactly what the file records
+  pub recorded : AsRecorded f (tableAfter f t)
+  recorded =
+      rw stored
+      record {
+        holding = held;
+        buses = made-busCount n q rows rest long;
+        needed = made-needs n q rows rest long;
+        lined = omega (arith, two-for-each _ held, made-last n q rows rest long, numbers);
+        joining = λ i j b. ap (has j) (made-row n q rows rest long i b) ∙ neighbours-joined n m r ends i j;
+      }
+
+  -- and to every call the file's table, whatever stands behind it
+  pub stored-same : SameNetwork (tableAfter f t) (fileTable f)
+  unfolding fileTable
+  stored-same = rw stored (made-beyond n q rows long rest)
+
+-- what is answered and stored as it is due is so for every file and slice
+all-recorded : (f t : List ℕ) (o : Outcome Counts) {t′ : List ℕ} → o ≡ readOutcome f (length t) → t′ ≡ tableAfter f t → Recorded f t o t′
+all-recorded f t (gives c) e s = subst (AsRecorded f) (sym s) (recorded f t (sym e))
+all-recorded f t (refuses k) e s = s ∙ kept f t (sym e)
+
+pub read-recorded : (f t : List ℕ) {o : Outcome Counts} {t′ : List ℕ} → ReadDue f t o t′ → (o ≡ readOutcome f (length t)) × ((t′ ≡ tableAfter f t) × Recorded f t o t′)
+read-recorded f t {o} d = let b = both d in (b .0, (b .1, all-recorded f t o (b .0) (b .1)))

@@ -1,0 +1,37 @@
+-- What the records of a file say: which buses they name, and which they join. r has the bytes of the records, and m is how many they are.
+-- Definitions only.
+use mathlib.Core.Bool.{Bool, _&&_, _||_}
+use mathlib.Core.List.{List}
+use Prim.Native.Nat.{ℕ}
+use lib.Dec.{ltb, eqb}
+use Rattle.lists.specs.Below.{anyBelow, countBelow, listBelow}
+use Rattle.table_spec.specs.Limits.{maxDegree}
+use Rattle.file_spec.specs.FileBytes.{firstEnd, secondEnd}
+
+-- record k names bus b
+unfoldable pub names : List ℕ → ℕ → ℕ → Bool
+names r b k = eqb (firstEnd r k) b || eqb (secondEnd r k) b
+
+-- record k joins i and j, either way round
+unfoldable pub joins : List ℕ → ℕ → ℕ → ℕ → Bool
+joins r i j k = (eqb (firstEnd r k) i && eqb (secondEnd r k) j) || (eqb (firstEnd r k) j && eqb (secondEnd r k) i)
+
+-- one of the first m records joins i and j
+unfoldable pub joined : ℕ → List ℕ → ℕ → ℕ → Bool
+joined m r i j = anyBelow m (joins r i j)
+
+-- the buses below n that one of the first m records joins to bus i, ascending
+unfoldable pub neighbours : ℕ → ℕ → List ℕ → ℕ → List ℕ
+neighbours n m r i = listBelow n (joined m r i)
+
+-- some bus below n stands in more of the first m records than it may have lines
+unfoldable pub degreeTooHigh : ℕ → ℕ → List ℕ → Bool
+degreeTooHigh n m r = anyBelow n (λ b. ltb maxDegree (countBelow m (names r b)))
+
+-- record k names the same pair as an earlier one
+unfoldable pub repeats : List ℕ → ℕ → Bool
+repeats r k = joined k r (firstEnd r k) (secondEnd r k)
+
+-- one of the first m records does
+unfoldable pub repeated : ℕ → List ℕ → Bool
+repeated m r = anyBelow m (repeats r)

@@ -1,0 +1,100 @@
+-- What a file with sound sections satisfies, and that each test of record ends passes exactly where its facts hold: `…-facts` and `…-test`.
+use mathlib.Core.Bool.{true, not, _&&_}
+use mathlib.Core.List.{List, _++_}
+use mathlib.Core.Path.{_≡_}
+use Prim.Native.Nat.{ℕ, _*_, _≤_, _<_}
+use native.Mathlib.Nat.{le-antisymm}
+use native.Mathlib.Omega.{arith}
+use borrow.Author.Tests.{ltb-true, ltb-false, eqb-false, not-true, not-false, lt-ltb, ne-eqb}
+use lib.Dec.{ltb, eqb}
+use lib.ListN.{length}
+use Rattle.lists.specs.Tests.{and-left, and-right}
+use Rattle.lists.specs.Loops.{allBelow-at, allBelow-by}
+use Rattle.lists.specs.Places.{length-part}
+use Rattle.refusals.specs.Causes.{NoneHolds, none-both}
+use Rattle.table_spec.specs.Limits.{maxBuses, maxLines, maxBytes}
+use Rattle.table_spec.specs.Holds.{needsInRange}
+use Rattle.table_spec.specs.Facts.{within-facts}
+use Rattle.file_spec.specs.FileBytes.{fileBusCount, needsEnd, needBytes, fileLineCount, recordsAt, fileEnd, records, firstEnd, secondEnd}
+use Rattle.file_spec.specs.Sections.{endsBefore, goesOn, busSectionCauses, lineCountCauses, missingCauses, endCauses, lineSectionCauses, sectionCauses, twoBuses, soundEnds}
+
+-- ---- the sections
+
+-- what a file has whose first section is sound
+pub record SoundBusSection (f : List ℕ) : Type 0 where
+  pub positive : 1 ≤ fileBusCount f
+  pub buses : fileBusCount f ≤ maxBuses
+  pub complete : needsEnd f ≤ length f
+  pub needs : needsInRange (needBytes f) ≡ true
+
+-- and whose sections all are
+pub record SoundSections (f : List ℕ) : Type 0 where
+  pub first : SoundBusSection f
+  pub lines : fileLineCount f ≤ maxLines
+  pub size : length f ≡ fileEnd f
+
+-- where none of a stage's causes holds
+module _ (f : List ℕ) where
+  pub buses-passed : NoneHolds (busSectionCauses f) → SoundBusSection f
+  unfolding endsBefore
+  buses-passed z =
+      let n = within-facts 1 maxBuses (fileBusCount f) (not-false _ (z .1 .0)) in
+      record { positive = n .0; buses = n .1; complete = let h = ltb-false (length f) _ (z .1 .1 .0) in omega arith; needs = not-false _ (z .1 .1 .1 .0) }
+
+  pub lines-passed : NoneHolds (lineCountCauses f) → fileLineCount f ≤ maxLines
+  lines-passed z = within-facts 0 maxLines (fileLineCount f) (not-false _ (z .1 .0)) .1
+
+  pub end-passed : NoneHolds (missingCauses f ++ endCauses f) → length f ≡ fileEnd f
+  unfolding endsBefore goesOn
+  end-passed z = le-antisymm (ltb-false _ _ (z .1 .0)) (ltb-false _ _ (z .0))
+
+  -- a file that no cause refuses
+  pub sections-passed : NoneHolds (sectionCauses f) → SoundSections f
+  sections-passed z =
+      let a = none-both (busSectionCauses f) (lineSectionCauses f) z in
+      let b = none-both (lineCountCauses f) (missingCauses f ++ endCauses f) (a .1) in
+      record { first = buses-passed (a .0); lines = lines-passed (b .0); size = end-passed (b .1) }
+
+module _ {f : List ℕ} (s : SoundSections f) where
+  pub length-needBytes : length (needBytes f) ≡ fileBusCount f
+  unfolding needBytes
+  length-needBytes = omega (arith, length-part 2 (needsEnd f) f (omega (arith, s .size)))
+
+  pub length-records : length (records f) ≡ 4 * fileLineCount f
+  unfolding records
+  length-records = omega (arith, length-part (recordsAt f) (fileEnd f) f (omega (arith, s .size)))
+
+  -- no file is longer than the limit says
+  pub bytes-le : length f ≤ maxBytes
+  bytes-le = omega (arith, s .size, s .first .buses, s .lines)
+
+-- ---- the ends of records
+
+abbrev pub TwoBuses : ℕ → ℕ → ℕ → Type 0
+TwoBuses n a b = (a < n) × (b < n) × (a ≡ b → ⊥)
+
+abbrev pub SoundEnds : ℕ → ℕ → List ℕ → Type 0
+SoundEnds n m r = (k : ℕ) → k < m → TwoBuses n (firstEnd r k) (secondEnd r k)
+
+module _ (n a b : ℕ) where
+  pub two-facts : twoBuses n a b ≡ true → TwoBuses n a b
+  unfolding twoBuses
+  two-facts w =
+      let both = and-left (ltb a n && ltb b n) (not (eqb a b)) w in (
+        ltb-true a n (and-left (ltb a n) (ltb b n) both),
+        ltb-true b n (and-right (ltb a n) (ltb b n) both),
+        eqb-false a b (not-true (eqb a b) (and-right (ltb a n && ltb b n) (not (eqb a b)) w)),
+      )
+
+  pub two-test : TwoBuses n a b → twoBuses n a b ≡ true
+  unfolding twoBuses
+  two-test h = rw (lt-ltb a n (h .0), lt-ltb b n (h .1), ne-eqb a b (h .2))
+
+module _ (n m : ℕ) (r : List ℕ) where
+  pub ends-facts : soundEnds n m r ≡ true → SoundEnds n m r
+  unfolding soundEnds
+  ends-facts w k l = two-facts n (firstEnd r k) (secondEnd r k) (allBelow-at _ m w l)
+
+  pub ends-test : SoundEnds n m r → soundEnds n m r ≡ true
+  unfolding soundEnds
+  ends-test h = allBelow-by _ m (λ k l. two-test n (firstEnd r k) (secondEnd r k) (h k l))

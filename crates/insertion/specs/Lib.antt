@@ -1,4 +1,0 @@
-pub mod Insertion
-pub mod Shifting
-pub mod Examples
-pub mod Inserting

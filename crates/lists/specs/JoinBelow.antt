@@ -1,0 +1,85 @@
+-- Laws of lists over the numbers below a bound: their lengths, their entries, and where each list of those joined stands.
+use mathlib.Core.List.{List, [], _∷_, _++_, map, map-append, append-assoc, append-nil}
+use mathlib.Core.Logic.{⊎-elim}
+use mathlib.Core.Path.{_≡_, refl, sym, ap, ap₂, subst, _∙_}
+use Prim.Native.Nat.{ℕ, zero, suc, _≤_, _<_}
+use native.Mathlib.Nat.{not-suc-le-zero, mul-one}
+use native.Mathlib.Omega.{arith}
+use lib.ListN.{length, take, drop, List·getD-append}
+use lib.Seq.{getD-at, take-at, drop-at, ext-getD}
+use Rattle.lists.specs.Lists.{_∈_, at}
+use Rattle.lists.specs.Below.{sumBelow, joinBelow, mapBelow, range}
+use Rattle.lists.specs.Sums.{sumBy-ones}
+use Rattle.lists.specs.Places.{in-at, at-in}
+use Rattle.lists.specs.Loops.{last-or}
+use Rattle.lists.specs.SumsBelow.{sumBy-joinBelow, sumBelow-same, sumBelow-grows, sumBelow-const}
+
+pub length-joinBelow : (n : ℕ) (f : ℕ → List ℕ) → length (joinBelow n f) ≡ sumBelow n (λ i. length (f i))
+length-joinBelow n f =
+    sym (sumBy-ones (joinBelow n f)) ∙ sumBy-joinBelow (λ x. 1) n f ∙ sumBelow-same _ _ n (λ i l. sumBy-ones (f i))
+
+pub length-mapBelow : (n : ℕ) (f : ℕ → ℕ) → length (mapBelow n f) ≡ n
+unfolding mapBelow
+length-mapBelow n f = length-joinBelow n (λ i. f i ∷ []) ∙ sumBelow-const 1 n ∙ mul-one n
+
+pub length-range : (n : ℕ) → length (range n) ≡ n
+length-range n = length-mapBelow n (λ i. i)
+
+pub length-joinBelow-le : (f : ℕ → List ℕ) {i : ℕ} (n : ℕ) → i ≤ n → length (joinBelow i f) ≤ length (joinBelow n f)
+length-joinBelow-le f {i} n h = rw (length-joinBelow i f, length-joinBelow n f) (sumBelow-grows (λ i. length (f i)) n h)
+
+-- the first of them, then the others
+pub joinBelow-first : (n : ℕ) (f : ℕ → List ℕ) → joinBelow (suc n) f ≡ f 0 ++ joinBelow n (λ i. f (suc i))
+unfolding joinBelow
+joinBelow-first zero f = sym (append-nil (f 0))
+joinBelow-first (suc n) f = ap (λ l. l ++ f (suc n)) (joinBelow-first n f) ∙ append-assoc (f 0) _ _
+
+-- lists of what agrees below n agree
+pub joinBelow-same : (f g : ℕ → List ℕ) (n : ℕ) → ((i : ℕ) → i < n → f i ≡ g i) → joinBelow n f ≡ joinBelow n g
+unfolding joinBelow
+joinBelow-same f g zero h = refl
+joinBelow-same f g (suc n) h = ap₂ _++_ (joinBelow-same f g n (λ i l. h i (omega arith))) (h n (omega arith))
+
+pub mapBelow-same : (f g : ℕ → ℕ) (n : ℕ) → ((i : ℕ) → i < n → f i ≡ g i) → mapBelow n f ≡ mapBelow n g
+unfolding mapBelow
+mapBelow-same f g n h = joinBelow-same _ _ n (λ i l. ap (λ x. x ∷ []) (h i l))
+
+-- list i of those joined stands where the lists before it end
+pub joinBelow-at : (f : ℕ → List ℕ) (n : ℕ) (rest : List ℕ) {i : ℕ} → i < n
+    → take (length (f i)) (drop (length (joinBelow i f)) (joinBelow n f ++ rest)) ≡ f i
+unfolding joinBelow
+joinBelow-at f zero rest h = absurd (not-suc-le-zero h)
+joinBelow-at f (suc n) rest {i} h =
+    ap (λ l. take (length (f i)) (drop (length (joinBelow i f)) l)) (append-assoc (joinBelow n f) (f n) rest)
+    ∙ ⊎-elim
+    (λ e. rw e (ap (take (length (f n))) (drop-at (joinBelow n f) (f n ++ rest) (length (joinBelow n f)) refl) ∙ take-at (f n) rest (length (f n)) refl))
+    (λ l. joinBelow-at f n (f n ++ rest) l) (last-or h)
+
+pub mapBelow-at : (f : ℕ → ℕ) (n : ℕ) {i : ℕ} → i < n → at (mapBelow n f) i ≡ f i
+unfolding at mapBelow joinBelow
+mapBelow-at f zero h = absurd (not-suc-le-zero h)
+mapBelow-at f (suc n) {i} h =
+    ⊎-elim (λ e. rw e (getD-at (mapBelow n f) (f n) [] 0 n (length-mapBelow n f)))
+    (λ l. List·getD-append (mapBelow n f) (f n ∷ []) 0 i (omega (arith, length-mapBelow n f)) ∙ mapBelow-at f n l) (last-or h)
+
+pub map-range : (f : ℕ → ℕ) (n : ℕ) → map f (range n) ≡ mapBelow n f
+unfolding mapBelow joinBelow
+map-range f zero = refl
+map-range f (suc n) = map-append f (range n) (n ∷ []) ∙ ap (λ l. l ++ (f n ∷ [])) (map-range f n)
+
+-- a list is its entries
+pub mapBelow-entries : (l : List ℕ) → mapBelow (length l) (at l) ≡ l
+unfolding at
+mapBelow-entries l =
+    let e = length-mapBelow (length l) (at l) in
+    ext-getD 0 (mapBelow (length l) (at l)) l e (λ i h. mapBelow-at (at l) (length l) (omega arith))
+
+pub in-mapBelow : (f : ℕ → ℕ) (n : ℕ) {i : ℕ} → i < n → f i ∈ mapBelow n f
+in-mapBelow f n {i} l =
+    subst (λ x. x ∈ mapBelow n f) (mapBelow-at f n l) (in-at (mapBelow n f) i (omega (arith, length-mapBelow n f)))
+
+pub of-mapBelow : (f : ℕ → ℕ) (n x : ℕ) → x ∈ mapBelow n f → (i : ℕ) × (i < n) × (f i ≡ x)
+of-mapBelow f n x m =
+    let w = at-in x (mapBelow n f) m in
+    let l : w .0 < n = omega (arith, w .1, length-mapBelow n f) in
+    (w .0, l, sym (mapBelow-at f n l) ∙ w .2)

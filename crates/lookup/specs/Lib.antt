@@ -1,2 +1,0 @@
--- What answers of Degree and of a row's place stand for.
-pub mod Answers

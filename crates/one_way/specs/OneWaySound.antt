@@ -1,0 +1,50 @@
+-- A table of one-way lines holds a network whose shares are defined, so the claims on answers hold of it.
+use mathlib.Core.Bool.{true, _&&_}
+use mathlib.Core.List.{List}
+use mathlib.Core.Path.{_≡_, refl}
+use Prim.Native.Nat.{ℕ, _<_}
+use native.Mathlib.Omega.{arith}
+use lib.ListN.{length}
+use Rattle.lists.specs.Tests.{and-left, and-right}
+use Rattle.refusals.specs.Outcomes.{Outcome}
+use Rattle.table_spec.specs.Layout.{busCount, needs, startsAt}
+use Rattle.table_spec.specs.Holds.{complete, needsInRange, Scorable, Holds}
+use Rattle.table_spec.specs.Rows.{length-needs, room}
+use Rattle.table_spec.specs.Facts.{complete-facts, needs-facts, rows-facts}
+use Rattle.share_spec.specs.Network.{Sound}
+use Rattle.share_spec.specs.FairFormula.{watching-converse, same-game}
+use Rattle.share_spec.specs.Formula.{numeratorOver}
+use Rattle.two_way.specs.TwoWay.{networkOf}
+use Rattle.two_way.specs.TwoWaySound.{watching}
+use Rattle.share_spec.specs.TableGame.{game-on, own-pos, own-over, over-whole}
+use Rattle.share_spec.specs.ShareOutcomes.{sharesOutcome, numeratorsAfter, AllFair}
+use Rattle.share_spec.specs.ShareClaims.{all-fair}
+use Rattle.one_way.specs.OneWay.{holdsOneWay, oneWay}
+
+scorable : (t : List ℕ) → holdsOneWay t ≡ true → Scorable t
+unfolding holdsOneWay
+scorable t w =
+    let w1 = and-left (complete (startsAt t) t && needsInRange (needs t)) _ w in
+    let c = complete-facts (startsAt t) t (and-left (complete (startsAt t) t) _ w1) in
+    let f = needs-facts (needs t) (and-right (complete (startsAt t) t) _ w1) in
+    let g = room (startsAt t) t c in
+    let long = length-needs t c in
+    record {
+      complete = c;
+      needed = λ i b. f i (omega arith) .0;
+      rows = rows-facts _ _ _ (g .0) (g .1) (and-right (complete (startsAt t) t && needsInRange (needs t)) _ w);
+    }
+
+pub held-sound : (t : List ℕ) → holdsOneWay t ≡ true → Sound (oneWay t)
+held-sound t h =
+    let w = scorable t h in
+    record { watching = watching-converse (oneWay t) refl (game-on w); positive = own-pos w; whole = over-whole w (own-over w refl) }
+
+-- two-way lines written with both directions give the same shares
+pub both-ways : {t : List ℕ} → Holds t → (L v : ℕ) → v < busCount t → numeratorOver (oneWay t) L v ≡ numeratorOver (networkOf t) L v
+both-ways {t} w = same-game (watching-converse (oneWay t) refl (game-on (w .shape))) (watching (w .shape) (w .mirrored)) refl refl
+
+-- the third demand for one-way lines: no law but the common one
+pub one-way-fair : (t x : List ℕ) {o : Outcome ℕ} {after : List ℕ} → o ≡ sharesOutcome (oneWay t) (length x) → after ≡ numeratorsAfter (oneWay t) x
+    → AllFair (oneWay t) (length x) o after
+one-way-fair t x e f = all-fair (oneWay t) (held-sound t) x (record { answered = e; after = f })

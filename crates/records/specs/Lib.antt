@@ -1,5 +1,0 @@
-pub mod Records
-pub mod Filling
-pub mod Pairs
-pub mod Neighbours
-pub mod Examples

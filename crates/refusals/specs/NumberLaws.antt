@@ -1,0 +1,46 @@
+-- Each refusal has a number of its own, above zero.
+use mathlib.Core.List.{List, [], _∷_}
+use mathlib.Core.Path.{_≡_, refl, sym, ap, _∙_}
+use Prim.Native.Nat.{ℕ, zero, suc, _-_, _<_}
+use native.Mathlib.Omega.{arith}
+use lib.ListN.{getD}
+use Rattle.refusals.specs.declared.Refusal.{Refusal}
+use Rattle.refusals.specs.declared.Refusal.the-variants.{FileTooShort, BusCount, Need, LineCount, FileTooLong, LineEnds, DegreeTooHigh, RepeatedLine, NoDenominator, TableTooShort, NoNetwork, NumeratorsTooShort, NoSuchBus, TextTooShort}
+use Rattle.refusals.specs.Numbers.{numberOf}
+
+-- the refusals in the order of their numbers
+inOrder : List Refusal
+inOrder = FileTooShort ∷ BusCount ∷ Need ∷ LineCount ∷ FileTooLong ∷ LineEnds ∷ DegreeTooHigh ∷ RepeatedLine ∷ NoDenominator ∷ TableTooShort ∷ NoNetwork ∷ NumeratorsTooShort ∷ NoSuchBus ∷ TextTooShort ∷ []
+
+named : ℕ → Refusal
+named k = getD inOrder (k - 1) TextTooShort
+
+back : (r : Refusal) → named (numberOf r) ≡ r
+unfolding named inOrder
+back FileTooShort = refl
+back BusCount = refl
+back Need = refl
+back LineCount = refl
+back FileTooLong = refl
+back LineEnds = refl
+back DegreeTooHigh = refl
+back RepeatedLine = refl
+back NoDenominator = refl
+back TableTooShort = refl
+back NoNetwork = refl
+back NumeratorsTooShort = refl
+back NoSuchBus = refl
+back TextTooShort = refl
+
+-- no two refusals have one number
+pub number-injective : (a b : Refusal) → numberOf a ≡ numberOf b → a ≡ b
+number-injective a b e = sym (back a) ∙ ap named e ∙ back b
+
+-- and none has number 0
+pub number-pos : (r : Refusal) → 0 < numberOf r
+unfolding named inOrder
+number-pos r = go (numberOf r) (back r) refl
+  where
+    go : (k : ℕ) → named k ≡ r → k ≡ numberOf r → 0 < k
+    go zero first e = let one = ap numberOf first in omega arith
+    go (suc k) other e = omega arith

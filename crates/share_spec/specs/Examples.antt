@@ -1,0 +1,20 @@
+-- What the scope's networks have for a game and for L, computed.
+use mathlib.Core.List.{[], _∷_, map, flatMap}
+use mathlib.Core.Path.{_≡_, refl}
+use Rattle.lists.specs.Lists.{sumBy, at}
+use Rattle.lists.specs.Below.{largestBelow, joinBelow, mapBelow, range}
+use Rattle.game.specs.Orders.{orders}
+use Rattle.game.specs.Game.{seen, value, gain}
+use Rattle.table_spec.specs.Layout.{rowAt, needs, starts, neighbourNumbers, row}
+use Rattle.table_spec.specs.Examples.{path}
+use Rattle.share_spec.specs.TableNetwork.{largestDegree, divisorsOf, gameOf}
+
+-- 1 plus the largest degree is 3
+divisors : divisorsOf (path 1) ≡ 1 ∷ 2 ∷ 3 ∷ []
+unfolding path divisorsOf largestDegree largestBelow mapBelow joinBelow rowAt starts neighbourNumbers row at
+divisors = refl
+
+-- the gains of bus 1 of Path over the six orders, with need 1, 2 and 3: over 6 they are its numerators
+by-orders : map (λ k. sumBy (gain (gameOf (path k)) (range 3) 1) (orders (range 3))) (1 ∷ 2 ∷ 3 ∷ []) ≡ 8 ∷ 10 ∷ 12 ∷ []
+unfolding path gain value seen row rowAt needs starts neighbourNumbers at mapBelow joinBelow flatMap
+by-orders = refl

@@ -1,0 +1,24 @@
+-- Units and terms, computed.
+use mathlib.Core.List.{[], _∷_}
+use mathlib.Core.Path.{_≡_, refl}
+use Rattle.lists.specs.Lists.{at}
+use Rattle.lists.specs.Below.{joinBelow, mapBelow}
+use Rattle.game.specs.Game.{neighbourTerm, neighbour}
+use Rattle.table_spec.specs.Layout.{rowAt, needs, starts, neighbourNumbers, row}
+use Rattle.table_spec.specs.Examples.{path}
+use Rattle.share_spec.specs.TableNetwork.{gameOf}
+use Rattle.share_terms.specs.Unit.{unit}
+
+-- 12 over 1 × 2, 2 × 3 and 3 × 4; a bus of degree 0 has no neighbour, and its unit is 0
+units : mapBelow 4 (unit 12) ≡ 0 ∷ 6 ∷ 2 ∷ 1 ∷ []
+unfolding unit mapBelow joinBelow
+units = refl
+
+-- over 6: bus 0 gives 3 to bus 1, and bus 1 gives 2 to each end if it needs 1, 1 if it needs 2, and nothing if it needs 3
+given : mapBelow 3 (neighbour (gameOf (path 1)) 6) ≡ 3 ∷ 2 ∷ 3 ∷ []
+unfolding path neighbourTerm mapBelow joinBelow rowAt needs starts neighbourNumbers row at
+given = refl
+
+by-need : (neighbour (gameOf (path 2)) 6 1 ∷ neighbour (gameOf (path 3)) 6 1 ∷ []) ≡ 1 ∷ 0 ∷ []
+unfolding path neighbourTerm mapBelow joinBelow rowAt needs starts neighbourNumbers row at
+by-need = refl

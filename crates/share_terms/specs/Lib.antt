@@ -1,0 +1,6 @@
+-- Units and additions: definitions, computed examples, then the laws of terms and of adding.
+pub mod Unit
+pub mod Added
+pub mod Examples
+pub mod TermUnits
+pub mod Adding

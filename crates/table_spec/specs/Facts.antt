@@ -1,0 +1,204 @@
+-- Each test of a table passes exactly where its facts hold: `…-facts` and `…-test`. `holds-facts` and `holds-test` are the two together.
+use mathlib.Core.Bool.{Bool, true, false, not, _&&_}
+use mathlib.Core.List.{List}
+use mathlib.Core.Path.{_≡_, sym, ap, _∙_}
+use Prim.Native.Nat.{ℕ, _+_, _≤_, _<_}
+use native.Mathlib.Omega.{arith}
+use borrow.Author.Tests.{leb-true, ltb-true, eqb-true, eqb-false, not-true, le-leb, lt-ltb, eq-eqb, ne-eqb}
+use lib.Dec.{leb, ltb, eqb}
+use lib.ListN.{length}
+use Rattle.lists.specs.Lists.{has, at}
+use Rattle.lists.specs.Below.{allBelow}
+use Rattle.lists.specs.Tests.{and-both, and-left, and-right, and-fails-left}
+use Rattle.lists.specs.Loops.{allBelow-at, allBelow-by}
+use Rattle.table_spec.specs.Limits.{maxBuses, maxDegree, maxNeed}
+use Rattle.table_spec.specs.Layout.{rowAt, busCount, needs, starts, entries, neighbourNumbers, startsAt}
+use Rattle.table_spec.specs.Rows.{last-read, length-needs, room}
+use Rattle.table_spec.specs.Holds.{within, agree, complete, needsInRange, neverFall, shortRows, validEntry, validRow, validRows, soundRows, mirrored, twoWay, holds, Complete, NeedsInRange, Steps, ValidRow, SoundRows, Mirrored, Holds}
+
+pub within-test : (a b x : ℕ) → a ≤ x → x ≤ b → within a b x ≡ true
+unfolding within
+within-test a b x p q = and-both (leb a x) (leb x b) (le-leb a x p) (le-leb x b q)
+
+pub within-facts : (a b x : ℕ) → within a b x ≡ true → (a ≤ x) × (x ≤ b)
+unfolding within
+within-facts a b x w = (leb-true a x (and-left (leb a x) (leb x b) w), leb-true x b (and-right (leb a x) (leb x b) w))
+
+agree-facts : (a b : Bool) → agree a b ≡ true → a ≡ b
+agree-facts true b w = sym w
+agree-facts false b w = sym (not-true b w)
+
+agree-test : (a b : Bool) → a ≡ b → agree a b ≡ true
+agree-test a true e = rw e
+agree-test a false e = rw e
+
+-- ---- the entries
+
+module _ (from : ℕ) (t : List ℕ) where
+  pub complete-facts : complete from t ≡ true → Complete from t
+  unfolding complete
+  complete-facts w =
+      let n = within-facts 1 maxBuses (busCount t) (and-left (within 1 maxBuses (busCount t)) _ w) in
+      record {
+        least = n .0;
+        most = n .1;
+        whole = leb-true _ _ (and-right (within 1 maxBuses (busCount t)) _ w);
+      }
+
+  pub complete-test : Complete from t → complete from t ≡ true
+  unfolding complete
+  complete-test w =
+      and-both _ _ (within-test 1 maxBuses (busCount t) (w .least) (w .most)) (le-leb (entries from t) (length t) (w .whole))
+
+  -- as code tests it: the bus count was read into n and the last start into x
+  pub complete-read : {n x : ℕ} → n ≡ busCount t → x ≡ at t (from + n) → 1 ≤ n → n ≤ maxBuses → leb (from + n + 1 + x) (length t) ≡ complete from t
+  unfolding complete
+  complete-read {n} {x} e p a b =
+      let w : within 1 maxBuses (busCount t) ≡ true = within-test 1 maxBuses (busCount t) (omega arith) (omega arith) in
+      let q : from + n + 1 + x ≡ entries from t = omega (arith, last-read from t e p) in
+      rw (w, q)
+
+-- ---- the needs
+
+module _ (q : List ℕ) where
+  pub needs-facts : needsInRange q ≡ true → NeedsInRange q
+  unfolding needsInRange
+  needs-facts w i b = within-facts 1 maxNeed (at q i) (allBelow-at _ (length q) w b)
+
+  pub needs-test : NeedsInRange q → needsInRange q ≡ true
+  unfolding needsInRange
+  needs-test f = allBelow-by _ (length q) (λ i b. within-test 1 maxNeed (at q i) (f i b .0) (f i b .1))
+
+-- ---- the rows
+
+module _ (n i : ℕ) (r : List ℕ) where
+  at-valid : validRow n i r ≡ true → (k : ℕ) → k < length r → validEntry n i r k ≡ true
+  unfolding validRow
+  at-valid w k b = allBelow-at (validEntry n i r) (length r) w b
+
+  pub valid-facts : validRow n i r ≡ true → ValidRow n i r
+  unfolding validEntry
+  valid-facts w =
+      record {
+        below = λ k b. ltb-true _ _ (and-left (ltb (at r k) n) _ (and-left (ltb (at r k) n && not (eqb (at r k) i)) _ (at-valid w k b)));
+        others = λ k b. eqb-false (at r k) i (not-true _ (and-right (ltb (at r k) n) _ (and-left (ltb (at r k) n && not (eqb (at r k) i)) _ (at-valid w k b))));
+        ascends = λ j k g b. ltb-true _ _ (allBelow-at (λ j. ltb (at r j) (at r k)) k (and-right (ltb (at r k) n && not (eqb (at r k) i)) _ (at-valid w k b)) g);
+      }
+
+  pub valid-test : ValidRow n i r → validRow n i r ≡ true
+  unfolding validRow validEntry
+  valid-test w =
+      allBelow-by (validEntry n i r) (length r) λ k b.
+      and-both _ _ (and-both _ _ (lt-ltb (at r k) n (w .below k b)) (ap not (ne-eqb (at r k) i (w .others k b))))
+      (allBelow-by _ k (λ j g. lt-ltb (at r j) (at r k) (w .ascends j k g b)))
+
+module _ (n : ℕ) (s : List ℕ) where
+  pub steps-facts : (neverFall n s && shortRows n s) ≡ true → Steps n s
+  unfolding neverFall shortRows
+  steps-facts w i b = (
+    leb-true _ _ (allBelow-at (λ i. leb (at s i) (at s (i + 1))) n (and-left (neverFall n s) (shortRows n s) w) b),
+    leb-true _ _ (allBelow-at (λ i. leb (at s (i + 1)) (at s i + maxDegree)) n (and-right (neverFall n s) (shortRows n s) w) b),
+  )
+
+  pub steps-test : Steps n s → (neverFall n s && shortRows n s) ≡ true
+  unfolding neverFall shortRows
+  steps-test f =
+      and-both _ _ (allBelow-by _ n (λ i b. le-leb (at s i) (at s (i + 1)) (f i b .0)))
+      (allBelow-by _ n (λ i b. le-leb (at s (i + 1)) (at s i + maxDegree) (f i b .1)))
+
+module _ (n : ℕ) (s l : List ℕ) where
+  pub rows-facts : n < length s → at s n ≤ length l → soundRows n s l ≡ true → SoundRows n s l
+  unfolding soundRows validRows
+  rows-facts g e w =
+      let w2 = and-left (eqb (at s 0) 0 && neverFall n s && shortRows n s) _ w in
+      let w1 = and-left (eqb (at s 0) 0 && neverFall n s) _ w2 in
+      record {
+        spans = record {
+          long = g;
+          ends = e;
+          steps = steps-facts n s (and-both _ _ (and-right (eqb (at s 0) 0) _ w1) (and-right (eqb (at s 0) 0 && neverFall n s) _ w2));
+        };
+        first = eqb-true _ _ (and-left (eqb (at s 0) 0) _ w1);
+        valid = λ i b. valid-facts n i (rowAt s l i) (allBelow-at _ n (and-right (eqb (at s 0) 0 && neverFall n s && shortRows n s) _ w) b);
+      }
+
+  pub rows-test : SoundRows n s l → soundRows n s l ≡ true
+  unfolding soundRows validRows
+  rows-test w =
+      let p = steps-test n s (w .spans .steps) in
+      rw (eq-eqb (at s 0) 0 (w .first), and-left (neverFall n s) (shortRows n s) p, and-right (neverFall n s) (shortRows n s) p)
+      (allBelow-by _ n (λ i b. valid-test n i (rowAt s l i) (w .valid i b)))
+
+  -- as code tests it: the first start was read into x, and b is the test of the rows
+  pub rows-read : {x : ℕ} {b : Bool} → x ≡ at s 0 → x ≡ 0 → (neverFall n s && shortRows n s) ≡ true → b ≡ validRows n s l → b ≡ soundRows n s l
+  unfolding soundRows
+  rows-read e z p d =
+      rw (eq-eqb (at s 0) 0 (sym e ∙ z), and-left (neverFall n s) (shortRows n s) p, and-right (neverFall n s) (shortRows n s) p) d
+
+  pub mirrored-facts : mirrored n s l ≡ true → Mirrored n s l
+  unfolding mirrored
+  mirrored-facts w i j b c =
+      agree-facts _ _
+      (allBelow-at (λ j. agree (has j (rowAt s l i)) (has i (rowAt s l j))) n
+      (allBelow-at (λ i. allBelow n (λ j. agree (has j (rowAt s l i)) (has i (rowAt s l j)))) n w b) c)
+
+  pub mirrored-test : Mirrored n s l → mirrored n s l ≡ true
+  unfolding mirrored
+  mirrored-test f = allBelow-by _ n (λ i b. allBelow-by _ n (λ j c. agree-test _ _ (f i j b c)))
+
+-- ---- a table, as code tests it: its sections were read into n, s and l
+
+module _ (from : ℕ) (t : List ℕ) {n : ℕ} {s l : List ℕ} (en : n ≡ busCount t) (es : s ≡ starts from t) (el : l ≡ neighbourNumbers from t) where
+  pub room-read : Complete from t → (n < length s) × (at s n ≤ length l)
+  room-read w = rw (en, es, el) (room from t w)
+
+  pub two-way-fails : soundRows n s l ≡ false → false ≡ twoWay from t
+  unfolding twoWay
+  two-way-fails f = sym (and-fails-left _ _ (rw (en, es, el) at f))
+
+  pub two-way-read : {b : Bool} → soundRows n s l ≡ true → b ≡ mirrored n s l → b ≡ twoWay from t
+  unfolding twoWay
+  two-way-read r m = rw (rw (en, es, el) at r) (rw (en, es, el) at m)
+
+-- ---- a network
+
+module _ (t : List ℕ) where
+  -- the needs, between their limits
+  pub holds-needs : Holds t → NeedsInRange (needs t)
+  holds-needs w i b = let l : i < busCount t = omega (arith, length-needs t (w .shape .complete)) in (w .shape .needed i l, w .limited i l)
+
+  pub holds-facts : holds t ≡ true → Holds t
+  unfolding holds twoWay
+  holds-facts w =
+      let n = busCount t in
+      let s = starts (startsAt t) t in
+      let l = neighbourNumbers (startsAt t) t in
+      let w1 = and-left (complete (startsAt t) t && needsInRange (needs t)) _ w in
+      let w2 = and-right (complete (startsAt t) t && needsInRange (needs t)) _ w in
+      let c = complete-facts (startsAt t) t (and-left (complete (startsAt t) t) _ w1) in
+      let g = room (startsAt t) t c in
+      let f = needs-facts (needs t) (and-right (complete (startsAt t) t) _ w1) in
+      let long = length-needs t c in
+      record {
+        shape = record {
+          complete = c;
+          needed = λ i b. f i (omega arith) .0;
+          rows = rows-facts n s l (g .0) (g .1) (and-left (soundRows n s l) _ w2);
+        };
+        mirrored = mirrored-facts n s l (and-right (soundRows n s l) _ w2);
+        limited = λ i b. f i (omega arith) .1;
+      }
+
+  pub holds-test : Holds t → holds t ≡ true
+  unfolding holds twoWay
+  holds-test w =
+      let s = starts (startsAt t) t in
+      let l = neighbourNumbers (startsAt t) t in
+      rw (complete-test (startsAt t) t (w .shape .complete), needs-test (needs t) (holds-needs w), rows-test (busCount t) s l (w .shape .rows))
+      (mirrored-test (busCount t) s l (w .mirrored))
+
+  -- as code tests it: the row starts begin at `from` and the needs are q, and b is the test of the rows
+  pub holds-read : {from : ℕ} {q : List ℕ} {b : Bool} → from ≡ startsAt t → q ≡ needs t → complete from t ≡ true → needsInRange q ≡ true
+      → b ≡ twoWay from t → b ≡ holds t
+  unfolding holds
+  holds-read eh eq c f r = rw (rw eh at c, rw eq at f) (rw eh at r)

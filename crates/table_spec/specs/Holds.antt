@@ -1,0 +1,111 @@
+-- What makes a slice hold a network: the scope's paragraph, clause by clause, as tests that compute and as facts. `Facts` shows them equivalent.
+-- Definitions only.
+use mathlib.Core.Bool.{Bool, true, false, not, _&&_}
+use mathlib.Core.List.{List}
+use mathlib.Core.Path.{_≡_}
+use Prim.Native.Nat.{ℕ, _+_, _≤_, _<_}
+use lib.Dec.{leb, ltb, eqb}
+use lib.ListN.{length}
+use Rattle.lists.specs.Lists.{has, at, Ascending}
+use Rattle.lists.specs.Below.{allBelow}
+use Rattle.table_spec.specs.Limits.{maxBuses, maxDegree, maxNeed}
+use Rattle.table_spec.specs.Layout.{rowAt, busCount, needs, starts, entries, neighbourNumbers, startsAt}
+
+-- x is from a to b
+unfoldable pub within : ℕ → ℕ → ℕ → Bool
+within a b x = leb a x && leb x b
+
+-- two tests agree
+abbrev pub agree : Bool → Bool → Bool
+agree true b = b
+agree false b = not b
+
+-- ---- tests
+
+-- n is from 1 to the most buses, and the slice has all entries of its table
+unfoldable pub complete : ℕ → List ℕ → Bool
+complete from t = within 1 maxBuses (busCount t) && leb (entries from t) (length t)
+
+-- needs are from 1 to the highest
+unfoldable pub needsInRange : List ℕ → Bool
+needsInRange q = allBelow (length q) (λ i. within 1 maxNeed (at q i))
+
+-- starts never fall
+unfoldable pub neverFall : ℕ → List ℕ → Bool
+neverFall n s = allBelow n (λ i. leb (at s i) (at s (i + 1)))
+
+-- rows are of at most as many numbers as a bus may have lines
+unfoldable pub shortRows : ℕ → List ℕ → Bool
+shortRows n s = allBelow n (λ i. leb (at s (i + 1)) (at s i + maxDegree))
+
+-- entry k of row i is valid: it is below n, is not the row's own bus, and is above the entries before it
+unfoldable pub validEntry : ℕ → ℕ → List ℕ → ℕ → Bool
+validEntry n i r k = ltb (at r k) n && not (eqb (at r k) i) && allBelow k (λ j. ltb (at r j) (at r k))
+
+-- so are all entries of a row, which is valid then; so are all rows
+unfoldable pub validRow : ℕ → ℕ → List ℕ → Bool
+validRow n i r = allBelow (length r) (validEntry n i r)
+
+unfoldable pub validRows : ℕ → List ℕ → List ℕ → Bool
+validRows n s l = allBelow n (λ i. validRow n i (rowAt s l i))
+
+-- the first start is 0; starts never fall; rows are short and valid
+unfoldable pub soundRows : ℕ → List ℕ → List ℕ → Bool
+soundRows n s l = eqb (at s 0) 0 && neverFall n s && shortRows n s && validRows n s l
+
+-- j is in row i exactly if i is in row j
+unfoldable pub mirrored : ℕ → List ℕ → List ℕ → Bool
+mirrored n s l = allBelow n (λ i. allBelow n (λ j. agree (has j (rowAt s l i)) (has i (rowAt s l j))))
+
+-- the rows of a table are sound and mirrored
+unfoldable pub twoWay : ℕ → List ℕ → Bool
+twoWay from t = soundRows (busCount t) (starts from t) (neighbourNumbers from t) && mirrored (busCount t) (starts from t) (neighbourNumbers from t)
+
+-- a slice holds a network
+unfoldable pub holds : List ℕ → Bool
+holds t = complete (startsAt t) t && needsInRange (needs t) && twoWay (startsAt t) t
+
+-- ---- the same as facts
+
+pub record Complete (from : ℕ) (t : List ℕ) : Type 0 where
+  pub least : 1 ≤ busCount t
+  pub most : busCount t ≤ maxBuses
+  pub whole : entries from t ≤ length t
+
+abbrev pub NeedsInRange : List ℕ → Type 0
+NeedsInRange q = (i : ℕ) → i < length q → (1 ≤ at q i) × (at q i ≤ maxNeed)
+
+-- each row ends no earlier than it starts, and is short
+abbrev pub Steps : ℕ → List ℕ → Type 0
+Steps n s = (i : ℕ) → i < n → (at s i ≤ at s (i + 1)) × (at s (i + 1) ≤ at s i + maxDegree)
+
+-- and the n rows lie among the numbers l
+pub record Spans (n : ℕ) (s l : List ℕ) : Type 0 where
+  pub long : n < length s
+  pub ends : at s n ≤ length l
+  pub steps : Steps n s
+
+pub record ValidRow (n i : ℕ) (r : List ℕ) : Type 0 where
+  pub below : (k : ℕ) → k < length r → at r k < n
+  pub others : (k : ℕ) → k < length r → at r k ≡ i → ⊥
+  pub ascends : Ascending r
+
+pub record SoundRows (n : ℕ) (s l : List ℕ) : Type 0 where
+  pub spans : Spans n s l
+  pub first : at s 0 ≡ 0
+  pub valid : (i : ℕ) → i < n → ValidRow n i (rowAt s l i)
+
+abbrev pub Mirrored : ℕ → List ℕ → List ℕ → Type 0
+Mirrored n s l = (i j : ℕ) → i < n → j < n → has j (rowAt s l i) ≡ has i (rowAt s l j)
+
+-- what makes a table one that can be scored, whichever way its lines run: it is complete, needs are above zero, rows are sound
+pub record Scorable (t : List ℕ) : Type 0 where
+  pub complete : Complete (startsAt t) t
+  pub needed : (i : ℕ) → i < busCount t → 1 ≤ at (needs t) i
+  pub rows : SoundRows (busCount t) (starts (startsAt t) t) (neighbourNumbers (startsAt t) t)
+
+-- what makes it a network's: lines run both ways, and needs keep their limits
+pub record Holds (t : List ℕ) : Type 0 where
+  pub shape : Scorable t
+  pub mirrored : Mirrored (busCount t) (starts (startsAt t) t) (neighbourNumbers (startsAt t) t)
+  pub limited : (i : ℕ) → i < busCount t → at (needs t) i ≤ maxNeed

@@ -1,6 +1,0 @@
--- Units and additions: definitions, computed examples, then the laws of terms and of adding.
-pub mod Unit
-pub mod Added
-pub mod Examples
-pub mod Terms
-pub mod Adding
