@@ -1,4 +1,4 @@
--- The network file, what its records say, and what Read answers and stores: definitions, each with its computed examples, then laws and claims.
+-- The network file and what its records say: definitions, each with its computed examples and laws.
 pub mod FileBytes
 pub mod Sections
 pub mod SectionExamples
@@ -7,9 +7,3 @@ pub mod Records
 pub mod RecordExamples
 pub mod RecordPairs
 pub mod RecordNeighbours
-pub mod ReadOutcome
-pub mod ReadStages
-pub mod ReadExamples
-pub mod ReadDecides
-pub mod Recorded
-pub mod FileFront

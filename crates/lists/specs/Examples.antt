@@ -4,7 +4,7 @@ use mathlib.Core.List.{List, [], _∷_}
 use mathlib.Core.Path.{_≡_, refl}
 use Prim.Native.Nat.{ℕ, _*_}
 use lib.Dec.{ltb}
-use Rattle.lists.specs.Lists.{sumBy, count, has, countIn, without, at, put}
+use Rattle.lists.specs.Lists.{sumBy, count, has, countIn, without, at, put, WrittenAt}
 use Rattle.lists.specs.Below.{allBelow, anyBelow, sumBelow, countBelow, joinBelow, mapBelow, listBelow, range}
 
 abbrev sample : List ℕ
@@ -25,10 +25,10 @@ entries : (at sample 3 ∷ at sample 4 ∷ []) ≡ 9 ∷ 0 ∷ []
 unfolding at
 entries = refl
 
--- two entries written from place 1 on: the others stay
-written : put sample 1 (5 ∷ 6 ∷ []) ≡ 4 ∷ 5 ∷ 6 ∷ 9 ∷ []
+-- two entries written from place 1 on: the others stay, and 3 is the place behind them
+written : WrittenAt (5 ∷ 6 ∷ []) 1 sample 3 (4 ∷ 5 ∷ 6 ∷ 9 ∷ [])
 unfolding put
-written = refl
+written = (refl, refl)
 
 -- 0 + 1 + 4 + 9, by the bound and by the list; two of 0, 1, 2, 3 are below 2
 squares : (sumBelow 4 (λ i. i * i) ∷ sumBy (λ i. i * i) (range 4) ∷ countBelow 4 (λ i. ltb i 2) ∷ []) ≡ 14 ∷ 14 ∷ 2 ∷ []

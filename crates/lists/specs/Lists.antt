@@ -66,3 +66,7 @@ Tabled n f l = (i : ℕ) → i < n → at l i ≡ f i
 -- t with vs written over its entries from place i on
 unfoldable pub put : List ℕ → ℕ → List ℕ → List ℕ
 put t i vs = take i t ++ (vs ++ drop (i + length vs) t)
+
+-- vs was written over the entries of t from place i on, which left u, and r is the place behind it
+abbrev pub WrittenAt : List ℕ → ℕ → List ℕ → ℕ → List ℕ → Type 0
+WrittenAt vs i t r u = (r ≡ i + length vs) × (u ≡ put t i vs)

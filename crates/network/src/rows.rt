@@ -1,4 +1,4 @@
-// Rows of neighbour numbers: the row of a bus is the part of the links from its start up to the next one's. Nothing here knows of a table.
+// Rows of neighbour numbers: the row of a bus is the part of them from its start up to the next one's. Nothing here knows of a table.
 ghost use mathlib.Core.Path.{_≡_};
 ghost use Prim.Native.Nat.{_+_, _≤_, _<_};
 ghost use lib.ListN.{length};

@@ -19,8 +19,8 @@ use Rattle.row_builder.specs.RowsInSlots.{rowInSlots}
 use Rattle.file_spec.specs.Records.{neighbours, repeated}
 use Rattle.file_records.specs.RecordsInSlots.{SoundRecords, NeighboursInSlots}
 use Rattle.file_spec.specs.RecordPairs.{rows-length}
-use Rattle.file_spec.specs.ReadOutcome.{roomCauses}
-use Rattle.file_spec.specs.ReadStages.{RoomDue}
+use Rattle.read_spec.specs.ReadOutcome.{roomCauses}
+use Rattle.read_spec.specs.ReadStages.{RoomDue}
 
 -- rows that have two numbers for each of m lines take so many entries behind the needs
 pub laid-length : (n : ℕ) (rows : ℕ → List ℕ) (m : ℕ) → length (joinBelow n rows) ≡ 2 * m → length (laid n rows) ≡ n + 1 + 2 * m

@@ -14,7 +14,7 @@ use Rattle.share_spec.specs.TableNetwork.{largestDegree, divisorsOf}
 use Rattle.file_spec.specs.FileBytes.{wordAt, needBytes, records}
 use Rattle.file_spec.specs.Sections.{endsBefore, goesOn, twoBuses, soundEnds}
 use Rattle.file_spec.specs.Records.{names, joins, joined, neighbours, degreeTooHigh, repeats, repeated}
-use Rattle.file_spec.specs.ReadOutcome.{fileTable}
+use Rattle.read_spec.specs.ReadOutcome.{fileTable}
 use Rattle.report.specs.Report.{printed}
 
 path : List ℕ

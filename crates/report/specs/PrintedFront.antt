@@ -4,8 +4,8 @@ use mathlib.Core.Path.{_≡_, sym, ap, _∙_}
 use Prim.Native.Nat.{ℕ, _+_}
 use lib.ListN.{take}
 use Rattle.table_spec.specs.Limits.{maxBytes, maxEntries}
-use Rattle.file_spec.specs.ReadOutcome.{fileTable}
-use Rattle.file_spec.specs.FileFront.{long-refused, front-refused, by-front}
+use Rattle.read_spec.specs.ReadOutcome.{fileTable}
+use Rattle.read_spec.specs.ReadFront.{long-refused, front-refused, by-front}
 use Rattle.two_way.specs.TwoWay.{networkOf}
 use Rattle.whole_sheet.specs.WholeSheet.{wholeSheet}
 use Rattle.report.specs.Report.{sheetOr, printed}

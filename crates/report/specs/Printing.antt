@@ -10,8 +10,8 @@ use Rattle.text.specs.Decimal.{decimal-le}
 use Rattle.refusals.specs.Outcomes.{gives, refuses}
 use Rattle.table_spec.specs.Limits.{maxEntries}
 use Rattle.network.specs.declared.Counts.{Counts}
-use Rattle.file_spec.specs.ReadOutcome.{readOutcome, fileTable, tableAfter}
-use Rattle.file_spec.specs.Recorded.{stored-same}
+use Rattle.read_spec.specs.ReadOutcome.{readOutcome, fileTable, tableAfter}
+use Rattle.read_spec.specs.Recorded.{stored-same}
 use Rattle.two_way.specs.TwoWay.{networkOf}
 use Rattle.two_way.specs.SameTable.{same-network}
 use Rattle.whole_sheet.specs.WholeSheet.{wholeSheet}

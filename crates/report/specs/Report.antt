@@ -4,7 +4,7 @@ use Prim.Native.Nat.{ℕ}
 use Rattle.refusals.specs.Outcomes.{Outcome, gives, refuses}
 use Rattle.text.specs.Text.{filled}
 use Rattle.table_spec.specs.Limits.{maxEntries}
-use Rattle.file_spec.specs.ReadOutcome.{readOutcome, fileTable}
+use Rattle.read_spec.specs.ReadOutcome.{readOutcome, fileTable}
 use Rattle.two_way.specs.TwoWay.{networkOf}
 use Rattle.whole_sheet.specs.WholeSheet.{wholeSheet}
 

@@ -2,7 +2,7 @@
 ghost use mathlib.Core.Path.{_≡_};
 ghost use Prim.Native.Nat.{_≤_};
 ghost use lib.ListN.{length};
-ghost use Rattle.lists.specs.Lists.{put};
+ghost use Rattle.lists.specs.Lists.{put, WrittenAt};
 ghost use Rattle.refusals.specs.Numbers.{numberOf};
 ghost use Rattle.sheet.specs.LineRoom.{longestLine};
 ghost use Rattle.report.specs.Report.{refusedLine, printed};
@@ -17,8 +17,8 @@ use whole_sheet::write_sheet;
 // Writes the line of a refused file.
 fn write_refusal(cause: Refusal, out: &mut [u8]) -> usize
     requires { ⌜ longestLine ≤ length (now out) ⌝ }
-    ensures { λ r. ⌜ (r ≡ length (refusedLine (numberOf cause))) × (r ≤ longestLine) ⌝ }
-    ensures { λ _. ⌜ now (out .exit) ≡ put (now (out .entry)) 0 (refusedLine (numberOf cause)) ⌝ }
+    ensures { λ r. ⌜ WrittenAt (refusedLine (numberOf cause)) 0 (now (out .entry)) r (now (out .exit)) ⌝ }
+    ensures { λ r. ⌜ r ≤ longestLine ⌝ }
 {
     fill_template(b"refused #\n", &[cause.number() as u64], out, 0)
 }

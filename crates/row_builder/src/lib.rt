@@ -75,7 +75,7 @@ fn copy_row(list: &[u16], table: &mut [u16], to: usize)
     }
 }
 
-// Writes the row starts of n buses into the table from place h on.
+// Writes the row starts of n buses into the table from place `from` on.
 fn store_starts(counts: &[u16; Network::BUSES], n: usize, table: &mut [u16], from: usize)
     requires { ⌜ (n ≤ maxBuses) × (from + n + 1 ≤ length (now table)) ⌝ }
     requires { ⌜ sumBelow n (at (now counts)) < 65536 ⌝ }
@@ -109,7 +109,7 @@ fn store_rows(slots: &[u16], counts: &[u16; Network::BUSES], n: usize, table: &m
     }
 }
 
-// Writes the row starts and the rows of n buses into the table from place h on.
+// Writes the row starts and the rows of n buses into the table from place `from` on.
 pub fn store_layout(
     slots: &[u16],
     counts: &[u16; Network::BUSES],

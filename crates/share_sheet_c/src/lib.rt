@@ -5,7 +5,7 @@ ghost use lib.ListN.{length};
 ghost use Rattle.refusals.specs.Numbers.{numberOf};
 ghost use Rattle.table_spec.specs.Limits.{maxBuses, maxEntries, maxBytes};
 ghost use Rattle.table_spec.specs.TableOutcomes.{degreeOutcome, rowPlaceOutcome, RowStands};
-ghost use Rattle.file_spec.specs.ReadOutcome.{readOutcome, tableAfter, Recorded};
+ghost use Rattle.read_spec.specs.ReadOutcome.{readOutcome, tableAfter, Recorded};
 ghost use Rattle.two_way.specs.TwoWay.{networkOf};
 ghost use Rattle.share_spec.specs.ShareOutcomes.{sharesOutcome, numeratorsAfter, AllFair, shareOutcome, OneFair};
 ghost use Rattle.fraction.specs.Cancel.{cancelOutcome, CancelRule};

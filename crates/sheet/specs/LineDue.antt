@@ -2,10 +2,10 @@
 use mathlib.Core.List.{List, _++_}
 use mathlib.Core.Path.{_≡_, refl, sym, ap, _∙_}
 use Prim.Native.Nat.{ℕ, _≤_, _<_}
-use native.Mathlib.Nat.{le-refl}
+use native.Mathlib.Nat.{le-refl, zero-add}
 use lib.ListN.{length, take, drop}
 use lib.Seq.{take-at, take-all}
-use Rattle.lists.specs.Lists.{put}
+use Rattle.lists.specs.Lists.{WrittenAt}
 use Rattle.lists.specs.Writes.{put-front}
 use Rattle.refusals.specs.Outcomes.{Outcome, gives, refuses}
 use Rattle.refusals.specs.Due.{Due, both, accept, below, not-below}
@@ -26,8 +26,8 @@ module _ (text x : List ℕ) where
   in-front g a w = not-below refl refl g (accept a (w ∙ ap (λ l. l ++ drop (length text) x) (take-all (length text) text (le-refl _))))
 
 -- a text that was written at the front of x, and is n bytes long, is the first n bytes there
-pub written-front : (text x : List ℕ) {n : ℕ} {y : List ℕ} → n ≡ length text → y ≡ put x 0 text → take n y ≡ text
-written-front text x {n} e w = ap (take n) (w ∙ put-front x text) ∙ take-at text _ n (sym e)
+pub written-front : (text x : List ℕ) {n : ℕ} {y : List ℕ} → WrittenAt text 0 x n y → take n y ≡ text
+written-front text x {n} w = ap (take n) (w .1 ∙ put-front x text) ∙ take-at text _ n (sym (w .0 ∙ zero-add (length text)))
 
 -- what was answered and written for a text is due for any that is the same
 pub due-text : {other : List ℕ} (text x : List ℕ) {o : Outcome ℕ} {y : List ℕ} → other ≡ text → (o ≡ textOutcome other (length x)) × (y ≡ textAfter other x) → TextDue text x o y

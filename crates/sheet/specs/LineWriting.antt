@@ -4,7 +4,7 @@ use mathlib.Core.Path.{_≡_, sym, ap, _∙_}
 use Prim.Native.Nat.{ℕ, _+_, _≤_}
 use native.Mathlib.Omega.{arith}
 use lib.ListN.{length}
-use Rattle.lists.specs.Lists.{put}
+use Rattle.lists.specs.Lists.{put, WrittenAt}
 use Rattle.fraction.specs.Cancel.{cancelled}
 use Rattle.share_spec.specs.Network.{Network, denominator}
 use Rattle.share_spec.specs.Formula.{numerator}
@@ -28,11 +28,12 @@ module _ {N : Network} (w : Short N) {i : ℕ} (b : i ≤ N .buses) {text : List
   pub line-room : (a : ℕ) {n : ℕ} → a + longestLine ≤ n → a + length text ≤ n
   line-room a h = omega (arith, bounded)
 
-  pub line-written : (x : List ℕ) (a : ℕ) {y : List ℕ} {r : ℕ} → r ≡ a + length text → y ≡ put x a text
-      → ((r ≡ a + length (sheetLine N i)) × (r ≤ a + longestLine)) × (y ≡ put x a (sheetLine N i))
-  line-written x a p q = ((p ∙ ap (λ l. a + length l) e, omega (arith, p, bounded)), q ∙ ap (put x a) e)
+  pub line-written : (x : List ℕ) (a : ℕ) {y : List ℕ} {r : ℕ} → WrittenAt text a x r y → WrittenAt (sheetLine N i) a x r y × (r ≤ a + longestLine)
+  line-written x a p = ((p .0 ∙ ap (λ l. a + length l) e, p .1 ∙ ap (put x a) e), omega (arith, p .0, bounded))
 
 -- what was written at the front is line i, if it is line j and j is i
-pub line-front : (N : Network) (x : List ℕ) {i j r : ℕ} {y : List ℕ} → i ≡ j → (r ≡ 0 + length (sheetLine N j)) × (r ≤ 0 + longestLine) → y ≡ put x 0 (sheetLine N j)
-    → ((r ≡ length (sheetLine N i)) × (r ≤ longestLine)) × (y ≡ put x 0 (sheetLine N i))
-line-front N x e p q = let e = ap (sheetLine N) e in ((omega (arith, p .0, ap length e), omega (arith, p .1)), q ∙ ap (put x 0) (sym e))
+pub line-front : (N : Network) (x : List ℕ) {i j r : ℕ} {y : List ℕ} → i ≡ j → WrittenAt (sheetLine N j) 0 x r y × (r ≤ 0 + longestLine)
+    → WrittenAt (sheetLine N i) 0 x r y × (r ≤ longestLine)
+line-front N x e p =
+    let e = ap (sheetLine N) (sym e) in
+    ((p .0 .0 ∙ ap (λ l. 0 + length l) e, p .0 .1 ∙ ap (put x 0) e), omega (arith, p .1))

@@ -2,7 +2,7 @@
 ghost use mathlib.Core.Path.{_≡_};
 ghost use Prim.Native.Nat.{suc, _+_, _≤_, _<_};
 ghost use lib.ListN.{length};
-ghost use Rattle.lists.specs.Lists.{put};
+ghost use Rattle.lists.specs.Lists.{WrittenAt};
 ghost use Rattle.table_spec.specs.Layout.{busCount};
 ghost use Rattle.table_spec.specs.Holds.{Holds};
 ghost use Rattle.share_spec.specs.Network.{denominator};
@@ -35,8 +35,8 @@ pub const LONGEST_LINE: usize = 49;
 // Writes the heading, and gives the place behind it.
 pub fn write_heading(table: &[u16], over: u64, out: &mut [u8], at: usize) -> usize
     requires { ⌜ Holds (now table) × (over ≡ denominator (networkOf (now table))) × (at + longestLine ≤ length (now out)) ⌝ }
-    ensures { λ r. ⌜ (r ≡ at + length (sheetLine (networkOf (now (table .entry))) 0)) × (r ≤ at + longestLine) ⌝ }
-    ensures { λ _. ⌜ now (out .exit) ≡ put (now (out .entry)) at (sheetLine (networkOf (now (table .entry))) 0) ⌝ }
+    ensures { λ r. ⌜ WrittenAt (sheetLine (networkOf (now (table .entry))) 0) at (now (out .entry)) r (now (out .exit)) ⌝ }
+    ensures { λ r. ⌜ r ≤ at + longestLine ⌝ }
 {
     let buses = bus_count(table) as u64;
     let lines = lines(table) as u64;
@@ -55,8 +55,8 @@ pub fn write_bus(
 ) -> usize
     requires { ⌜ Holds (now table) × (bus < busCount (now table)) × (at + longestLine ≤ length (now out)) ⌝ }
     requires { ⌜ (over ≡ denominator (networkOf (now table))) × (numerator ≡ numeratorOf (networkOf (now table)) bus) ⌝ }
-    ensures { λ r. ⌜ (r ≡ at + length (sheetLine (networkOf (now (table .entry))) (suc bus))) × (r ≤ at + longestLine) ⌝ }
-    ensures { λ _. ⌜ now (out .exit) ≡ put (now (out .entry)) at (sheetLine (networkOf (now (table .entry))) (suc bus)) ⌝ }
+    ensures { λ r. ⌜ WrittenAt (sheetLine (networkOf (now (table .entry))) (suc bus)) at (now (out .entry)) r (now (out .exit)) ⌝ }
+    ensures { λ r. ⌜ r ≤ at + longestLine ⌝ }
 {
     let need = need(table, bus) as u64;
     let degree = neighbours(table, bus).len() as u64;
@@ -68,8 +68,8 @@ pub fn write_bus(
 // Writes sheet line i at the front: line 0 is the heading, line i that of bus i - 1.
 fn write_line(table: &[u16], i: usize, out: &mut [u8]) -> usize
     requires { ⌜ Holds (now table) × (i ≤ busCount (now table)) × (longestLine ≤ length (now out)) ⌝ }
-    ensures { λ r. ⌜ (r ≡ length (sheetLine (networkOf (now (table .entry))) i)) × (r ≤ longestLine) ⌝ }
-    ensures { λ _. ⌜ now (out .exit) ≡ put (now (out .entry)) 0 (sheetLine (networkOf (now (table .entry))) i) ⌝ }
+    ensures { λ r. ⌜ WrittenAt (sheetLine (networkOf (now (table .entry))) i) 0 (now (out .entry)) r (now (out .exit)) ⌝ }
+    ensures { λ r. ⌜ r ≤ longestLine ⌝ }
 {
     if i == 0 {
         return write_heading(table, denominator(table), out, 0);

@@ -11,7 +11,7 @@ use Rattle.table_spec.specs.Holds.{within, complete, needsInRange, neverFall, s
 use Rattle.file_spec.specs.FileBytes.{wordAt, needBytes, records}
 use Rattle.file_spec.specs.Sections.{endsBefore, goesOn, twoBuses, soundEnds}
 use Rattle.file_spec.specs.Records.{names, joins, joined, neighbours, degreeTooHigh, repeats, repeated}
-use Rattle.file_spec.specs.ReadOutcome.{fileTable, storedTable}
+use Rattle.read_spec.specs.ReadOutcome.{fileTable, storedTable}
 use Rattle.share_spec.specs.Formula.{numeratorOver}
 use Rattle.share_spec.specs.TableNetwork.{largestDegree, divisorsOf}
 use Rattle.share_spec.specs.ShareOutcomes.{storedNumerators}

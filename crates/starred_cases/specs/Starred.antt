@@ -5,7 +5,7 @@ use Prim.Native.Nat.{ℕ}
 use lib.ListN.{length, take, replicate}
 use Rattle.refusals.specs.Outcomes.{Outcome, gives, refuses}
 use Rattle.fraction.specs.Cancel.{cancelOutcome}
-use Rattle.file_spec.specs.ReadOutcome.{readOutcome, tableAfter}
+use Rattle.read_spec.specs.ReadOutcome.{readOutcome, tableAfter}
 use Rattle.two_way.specs.TwoWay.{networkOf}
 use Rattle.share_spec.specs.ShareOutcomes.{sharesOutcome, numeratorsAfter}
 

@@ -1,15 +1,13 @@
 // Text in ASCII, written into a lent slice: numbers in decimal, and templates in which each `#` stands for a number.
-ghost use mathlib.Core.Path.{_≡_};
 ghost use Prim.Native.Nat.{_+_, _≤_};
 ghost use lib.ListN.{length};
-ghost use Rattle.lists.specs.Lists.{count, put};
+ghost use Rattle.lists.specs.Lists.{count, WrittenAt};
 ghost use Rattle.text.specs.Text.{decimal, sign, filled};
 
 // Writes a number, and gives the place behind it.
 fn decimal(value: u64, out: &mut [u8], at: usize) -> usize
     requires { ⌜ at + length (decimal value) ≤ length (now out) ⌝ }
-    ensures { λ r. ⌜ r ≡ at + length (decimal value) ⌝ }
-    ensures { λ _. ⌜ now (out .exit) ≡ put (now (out .entry)) at (decimal value) ⌝ }
+    ensures { λ r. ⌜ WrittenAt (decimal value) at (now (out .entry)) r (now (out .exit)) ⌝ }
 {
     if value < 10 {
         out[at] = b'0' + value as u8;
@@ -23,8 +21,7 @@ fn decimal(value: u64, out: &mut [u8], at: usize) -> usize
 // Writes a template with its numbers, and gives the place behind it.
 pub fn fill_template(template: &[u8], values: &[u64], out: &mut [u8], at: usize) -> usize
     requires { ⌜ (count sign (now template) ≤ length (now values)) × (at + length (filled (now template) (now values)) ≤ length (now out)) ⌝ }
-    ensures { λ r. ⌜ r ≡ at + length (filled (now (template .entry)) (now (values .entry))) ⌝ }
-    ensures { λ _. ⌜ now (out .exit) ≡ put (now (out .entry)) at (filled (now (template .entry)) (now (values .entry))) ⌝ }
+    ensures { λ r. ⌜ WrittenAt (filled (now (template .entry)) (now (values .entry))) at (now (out .entry)) r (now (out .exit)) ⌝ }
 {
     let mut end = at;
     let mut next = 0;

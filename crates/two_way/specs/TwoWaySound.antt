@@ -20,7 +20,7 @@ unfolding totalWeight
 total-weight t = omega (arith, sumBelow-const 1 (busCount t))
 
 module _ {t : List ℕ} (w : Scorable t) (m : Mirrored (busCount t) (starts (startsAt t) t) (neighbourNumbers (startsAt t) t)) where
-  -- SYMMETRY: v watches just the buses that watch it. Only here is it used that the table is mirrored; what rests on that cites this
+  -- SYMMETRY: v watches just the buses that watch it. Of shares, only this rests on the table being mirrored
   two-way : (u v : ℕ) → u < busCount t → v < busCount t → has v (row t u) ≡ has u (row t v)
   unfolding row
   two-way u v = m u v

@@ -5,7 +5,7 @@ use Prim.Native.Nat.{ℕ, suc, _+_, _≤_, zero-le}
 use native.Mathlib.Numerals.{add-one}
 use native.Mathlib.Omega.{arith}
 use lib.ListN.{length, length-append}
-use Rattle.lists.specs.Lists.{at, put}
+use Rattle.lists.specs.Lists.{at, put, WrittenAt}
 use Rattle.lists.specs.Below.{joinBelow, mapBelow}
 use Rattle.lists.specs.Places.{at-append}
 use Rattle.lists.specs.JoinBelow.{length-mapBelow, mapBelow-at, joinBelow-first}
@@ -35,11 +35,11 @@ abbrev pub busLines : Network → ℕ → List ℕ
 busLines N n = joinBelow n (λ v. sheetLine N (suc v))
 
 -- the heading was written at the front of x, which left u, and those of n buses behind it, from place a on; e is the place behind them
-pub all-written : (N : Network) (x : List ℕ) {u y : List ℕ} {a e n : ℕ} → a ≡ 0 + length (sheetLine N 0) → u ≡ put x 0 (sheetLine N 0)
-    → n ≡ N .buses → e ≡ a + length (busLines N n) → y ≡ put u a (busLines N n) → (e ≡ length (wholeSheet N)) × (y ≡ put x 0 (wholeSheet N))
-all-written N x {n = n} ea eu en ee ey =
+pub all-written : (N : Network) (x : List ℕ) {u y : List ℕ} {a e n : ℕ} → WrittenAt (sheetLine N 0) 0 x a u → n ≡ N .buses → WrittenAt (busLines N n) a u e y
+    → WrittenAt (wholeSheet N) 0 x e y
+all-written N x {n = n} first en rest =
     let all : sheetLine N 0 ++ busLines N n ≡ wholeSheet N =
     sym (joinBelow-first n (sheetLine N)) ∙ ap (λ k. joinBelow k (sheetLine N)) (sym (add-one n) ∙ ap (λ n. n + 1) en) in (
-      omega (arith, ea, ee, ap length all, length-append (sheetLine N 0) (busLines N n)),
-      ey ∙ stored-list x 0 (sheetLine N 0) eu ea (busLines N n) zero-le ∙ ap (put x 0) all,
+      omega (arith, first .0, rest .0, ap length all, length-append (sheetLine N 0) (busLines N n)),
+      rest .1 ∙ stored-list x 0 (sheetLine N 0) (first .1) (first .0) (busLines N n) zero-le ∙ ap (put x 0) all,
     )

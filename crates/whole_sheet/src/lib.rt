@@ -2,7 +2,7 @@
 ghost use mathlib.Core.Path.{_≡_};
 ghost use Prim.Native.Nat.{_≤_};
 ghost use lib.ListN.{length};
-ghost use Rattle.lists.specs.Lists.{put};
+ghost use Rattle.lists.specs.Lists.{WrittenAt};
 ghost use Rattle.table_spec.specs.Holds.{Holds};
 ghost use Rattle.two_way.specs.TwoWay.{networkOf};
 ghost use Rattle.sheet.specs.LineOutcomes.{outcomeOfWritten};
@@ -25,8 +25,8 @@ pub const LONGEST_SHEET: usize = LONGEST_LINE * (1 + Network::BUSES);
 // Writes sheet lines 0 to n at the front, and gives the place behind them.
 fn write_lines(table: &[u16], over: u64, numerators: &[u64], out: &mut [u8]) -> usize
     requires { ⌜ Holds (now table) × Scored (networkOf (now table)) over (now numerators) × (longestSheet ≤ length (now out)) ⌝ }
-    ensures { λ r. ⌜ (r ≡ length (wholeSheet (networkOf (now (table .entry))))) × (r ≤ longestSheet) ⌝ }
-    ensures { λ _. ⌜ now (out .exit) ≡ put (now (out .entry)) 0 (wholeSheet (networkOf (now (table .entry)))) ⌝ }
+    ensures { λ r. ⌜ WrittenAt (wholeSheet (networkOf (now (table .entry)))) 0 (now (out .entry)) r (now (out .exit)) ⌝ }
+    ensures { λ r. ⌜ r ≤ longestSheet ⌝ }
 {
     let n = bus_count(table);
     let mut end = write_heading(table, over, out, 0);
@@ -41,8 +41,8 @@ fn write_lines(table: &[u16], over: u64, numerators: &[u64], out: &mut [u8]) -> 
 // Writes the sheet of a network. The table is not tested, and its L is found once.
 pub fn write_sheet(table: &[u16], out: &mut [u8]) -> usize
     requires { ⌜ Holds (now table) × (longestSheet ≤ length (now out)) ⌝ }
-    ensures { λ r. ⌜ (r ≡ length (wholeSheet (networkOf (now (table .entry))))) × (r ≤ longestSheet) ⌝ }
-    ensures { λ _. ⌜ now (out .exit) ≡ put (now (out .entry)) 0 (wholeSheet (networkOf (now (table .entry)))) ⌝ }
+    ensures { λ r. ⌜ WrittenAt (wholeSheet (networkOf (now (table .entry)))) 0 (now (out .entry)) r (now (out .exit)) ⌝ }
+    ensures { λ r. ⌜ r ≤ longestSheet ⌝ }
 {
     let mut numerators = [0u64; Network::BUSES];
     let over = score(table, &mut numerators);

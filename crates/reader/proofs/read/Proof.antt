@@ -9,9 +9,9 @@ use Rattle.file_spec.specs.FileBytes.{fileBusCount, fileLineCount, records}
 use Rattle.file_spec.specs.Sections.{sectionCauses, counts, sectionsOutcome}
 use Rattle.file_spec.specs.SoundSections.{length-needBytes, length-records}
 use Rattle.file_sections.specs.FileAnswers.{outcomeOfReading}
-use Rattle.file_spec.specs.ReadOutcome.{recordCauses}
-use Rattle.file_spec.specs.Recorded.{read-recorded}
-use Rattle.file_spec.specs.ReadDecides.{sound, counted, records-decide}
+use Rattle.read_spec.specs.ReadOutcome.{recordCauses}
+use Rattle.read_spec.specs.Recorded.{read-recorded}
+use Rattle.read_spec.specs.ReadDecides.{sound, counted, records-decide}
 use Rattle.reader.proofs.read.Statement.{statement}
 use Rattle.reader.proofs.read.Tie as tie
 

@@ -8,8 +8,8 @@ use Rattle.lists.specs.Lists.{put}
 use Rattle.refusals.specs.Outcomes.{gives}
 use Rattle.table_spec.specs.Limits.{maxEntries}
 use Rattle.file_sections.specs.FileAnswers.{outcomeOfReading}
-use Rattle.file_spec.specs.ReadOutcome.{readOutcome}
-use Rattle.file_spec.specs.Recorded.{recorded}
+use Rattle.read_spec.specs.ReadOutcome.{readOutcome}
+use Rattle.read_spec.specs.Recorded.{recorded}
 use Rattle.two_way.specs.TwoWay.{networkOf}
 use Rattle.whole_sheet.specs.WholeSheet.{wholeSheet}
 use Rattle.report.specs.Printing.{print-sheet, print-refusal}
@@ -24,7 +24,7 @@ returns-2 c =
     let q = c .before .before .before in
     let f = q .before .before .before .before .before .before .args .file .now in
     let p = print-refusal f (replicate maxEntries 0) room (sym (q .before .before .before .read .ensures .0) ∙ ap outcomeOfReading (q .cause .given .1)) in
-    ((c .write-refusal .ensures .0 .0 ∙ ap length p, omega (arith, c .write-refusal .ensures .0 .1, c .write-refusal .kept .1 .0)), c .write-refusal .ensures .1 ∙ ap (put _ 0) p)
+    ((omega (arith, c .write-refusal .ensures .0 .0, ap length p), omega (arith, c .write-refusal .ensures .1, c .write-refusal .kept .1 .0)), c .write-refusal .ensures .0 .1 ∙ ap (put _ 0) p)
 
 -- Read accepted the file
 accepted : (c : tie.After-enum-told) → readOutcome (c .before .before .before .before .before .before .args .file .now) (length (replicate {A = ℕ} maxEntries 0)) ≡ gives (c .enum-told .given .0 .0)
@@ -40,7 +40,7 @@ returns c =
     let e = c .before .before .before in
     let f = e .before .before .before .before .before .before .args .file .now in
     let p = ap (λ t. wholeSheet (networkOf t)) (e .before .before .before .read .ensures .1 .0) ∙ print-sheet f (replicate maxEntries 0) room (accepted e) in
-    ((c .write-sheet .ensures .0 .0 ∙ ap length p, omega (arith, c .write-sheet .ensures .0 .1, c .write-sheet .kept .1 .0)), c .write-sheet .ensures .1 ∙ ap (put _ 0) p)
+    ((omega (arith, c .write-sheet .ensures .0 .0, ap length p), omega (arith, c .write-sheet .ensures .1, c .write-sheet .kept .1 .0)), c .write-sheet .ensures .0 .1 ∙ ap (put _ 0) p)
 
 pub report-spec : {M : Type 1} → statement M
 report-spec =

@@ -22,8 +22,8 @@ returns c =
     let p = c .before .before in
     let n = p .before .before .before in
     let e = n .number .ensures in (
-      (omega (arith, p .fill-template .ensures .0, ap (λ k. length (refusedLine k)) e), omega (arith, p .fill-template .ensures .0, bounded n)),
-      p .fill-template .ensures .1 ∙ ap (λ k. put (n .before .before .before .args .out .now) 0 (refusedLine k)) e,
+      (omega (arith, p .fill-template .ensures .0, ap (λ k. length (refusedLine k)) e), p .fill-template .ensures .1 ∙ ap (λ k. put (n .before .before .before .args .out .now) 0 (refusedLine k)) e),
+      omega (arith, p .fill-template .ensures .0, bounded n),
     )
 
 fill-template-requires : tie.Need-fill-template-requires

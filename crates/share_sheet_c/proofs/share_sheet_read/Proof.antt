@@ -6,7 +6,7 @@ use Prim.Native.Nat.{ℕ}
 use Rattle.refusals.specs.Outcomes.{Outcome}
 use Rattle.network.specs.declared.Counts.{Counts}
 use Rattle.file_sections.specs.FileAnswers.{outcomeOfReading}
-use Rattle.file_spec.specs.ReadOutcome.{Recorded}
+use Rattle.read_spec.specs.ReadOutcome.{Recorded}
 use Rattle.share_sheet_c.specs.StatusLaws.{refused, status-keeps, accepted}
 use Rattle.share_sheet_c.proofs.share_sheet_read.Statement.{statement}
 use Rattle.share_sheet_c.proofs.share_sheet_read.Tie as tie

@@ -42,10 +42,10 @@ write-line-requires c κs =
 -- the line was written aside
 aside : (c : tie.After-write-line) → let a = c .before .before .before .before .before .before .before .before .args in
     take (c .write-line .result) (c .write-line .last .1 .1 .0) ≡ sheetLine (networkOf (a .table .now)) (a .i)
-aside c = written-front _ (replicate longestLine 0) (c .write-line .ensures .0 .0) (c .write-line .ensures .1)
+aside c = written-front _ (replicate longestLine 0) (c .write-line .ensures .0)
 
 slice-aggregate-copy-text : tie.Need-slice-aggregate-copy-text
-slice-aggregate-copy-text c = let w = c .before .before in w .write-line .ensures .0 .0 ∙ sym (ap length (aside w))
+slice-aggregate-copy-text c = let w = c .before .before in omega (arith, w .write-line .ensures .0 .0, ap length (aside w))
 
 returns-3 : tie.Need-returns-3
 returns-3 c =

@@ -34,7 +34,7 @@ returns c =
     let f = c .before .before in
     let r = f .before .before .before .before in
     let s = start r in
-    line-written (held-short (s .pre .0 .0)) (s .pre .0 .1) (text r) (s .args .out .now) (s .args .at) (f .fill-template .ensures .0) (f .fill-template .ensures .1)
+    line-written (held-short (s .pre .0 .0)) (s .pre .0 .1) (text r) (s .args .out .now) (s .args .at) (f .fill-template .ensures)
 
 fill-template-requires : tie.Need-fill-template-requires
 fill-template-requires c κs =

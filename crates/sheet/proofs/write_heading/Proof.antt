@@ -25,7 +25,7 @@ returns c =
     let f = c .before .before in
     let l = f .before .before .before .before in
     let s = start l in
-    line-written (held-short (s .pre .0)) zero-le (text l) (s .args .out .now) (s .args .at) (f .fill-template .ensures .0) (f .fill-template .ensures .1)
+    line-written (held-short (s .pre .0)) zero-le (text l) (s .args .out .now) (s .args .at) (f .fill-template .ensures)
 
 fill-template-requires : tie.Need-fill-template-requires
 fill-template-requires c κs =

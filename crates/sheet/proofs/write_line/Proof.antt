@@ -13,7 +13,7 @@ returns c =
     let w = c .before .before in
     let d = w .before .before in
     let a = d .before .before .before .before .args in
-    line-front (networkOf (a .table .now)) (a .out .now) (d .before .if1 .taken) (w .write-heading .ensures .0) (w .write-heading .ensures .1)
+    line-front (networkOf (a .table .now)) (a .out .now) (d .before .if1 .taken) (w .write-heading .ensures)
 
 returns-2 : tie.Need-returns-2
 returns-2 c =
@@ -21,7 +21,7 @@ returns-2 c =
     let e = w .before .before .before in
     let a = e .before .before .before .args in
     let z : a .i ≡ suc (a .i - 1) = omega (arith, e .if1 .left) in
-    line-front (networkOf (a .table .now)) (a .out .now) z (w .write-bus .ensures .0) (w .write-bus .ensures .1)
+    line-front (networkOf (a .table .now)) (a .out .now) z (w .write-bus .ensures)
 
 pub write-line-spec : {M : Type 1} → statement M
 write-line-spec =

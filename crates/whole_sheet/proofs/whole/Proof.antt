@@ -26,13 +26,13 @@ write-sheet-requires c κs = (holds-facts _ (held (c .before)), omega (arith, le
 
 -- the sheet was written aside
 aside : (c : tie.After-write-sheet) → take (c .write-sheet .result) (c .write-sheet .last .1 .0) ≡ wholeSheet (networkOf (c .before .before .before .before .before .before .args .table .now))
-aside c = written-front _ (replicate longestSheet 0) (c .write-sheet .ensures .0 .0) (c .write-sheet .ensures .1)
+aside c = written-front _ (replicate longestSheet 0) (c .write-sheet .ensures .0)
 
 returns : tie.Need-returns
 returns c = none-held (networkOf (c .before .before .before .before .args .table .now)) _ (failed (c .before .holds .ensures) (c .if1 .taken))
 
 slice-aggregate-copy-text : tie.Need-slice-aggregate-copy-text
-slice-aggregate-copy-text c = let w = c .before .before in w .write-sheet .ensures .0 .0 ∙ sym (ap length (aside w))
+slice-aggregate-copy-text c = let w = c .before .before in omega (arith, w .write-sheet .ensures .0 .0, ap length (aside w))
 
 returns-2 : tie.Need-returns-2
 returns-2 c =

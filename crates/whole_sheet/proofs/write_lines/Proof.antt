@@ -49,11 +49,11 @@ module _ (v : tie.At-loop Inv-loop μ-loop) where
   headed-kept : length (headed .write-heading .last .1 .1 .0) ≡ length (start .args .out .now)
   headed-kept =
       let h = headed .write-heading .ensures in
-      stored-length (start .args .out .now) 0 (sheetLine (networkOf (start .args .table .now)) 0) (h .1) (h .0 .0) (omega (arith, h .0 .1, start .pre .2))
+      stored-length (start .args .out .now) 0 (sheetLine (networkOf (start .args .table .now)) 0) (h .0 .1) (h .0 .0) (omega (arith, h .1, start .pre .2))
 
   kept : length (v .loop .out) ≡ length (start .args .out .now)
   kept =
-      stored-length _ _ _ (v .loop .inv .3) (v .loop .inv .1) (omega (arith, headed .write-heading .ensures .0 .1, v .loop .inv .2, v .loop .inv .0, bounded, start .pre .2, headed-kept))
+      stored-length _ _ _ (v .loop .inv .3) (v .loop .inv .1) (omega (arith, headed .write-heading .ensures .1, v .loop .inv .2, v .loop .inv .0, bounded, start .pre .2, headed-kept))
       ∙ headed-kept
 
 shared-slice-read-write-bus : tie.Need-shared-slice-read-write-bus Inv-loop μ-loop
@@ -67,7 +67,7 @@ write-bus-requires c κs =
     let v = c .before .before .before in
     let s = start v in
     let b : v .loop .bus < busCount (s .args .table .now) = omega (arith, c .before .before .loop-test .taken, headed v .before .before .bus-count .ensures .0) in
-    let room = headed v .write-heading .ensures .0 .1 in (
+    let room = headed v .write-heading .ensures .1 in (
       (s .pre .0, b, omega (arith, kept v, room, v .loop .inv .2, bounded v, c .before .before .loop-test .taken, s .pre .2)),
       (s .pre .1 .over, s .pre .1 .each (v .loop .bus) b),
     )
@@ -80,8 +80,8 @@ loop-again c =
     let e = joinBelow-next (v .loop .bus) (λ v. sheetLine N (suc v)) in (
       search needs,
       omega (arith, w .write-bus .ensures .0 .0, v .loop .inv .1, ap length e, length-append (busLines N (v .loop .bus)) (sheetLine N (suc (v .loop .bus)))),
-      omega (arith, w .write-bus .ensures .0 .1, v .loop .inv .2),
-      w .write-bus .ensures .1 ∙ stored-list _ _ _ (v .loop .inv .3) (v .loop .inv .1) _ (omega (arith, headed v .write-heading .ensures .0 .1, headed-kept v, start v .pre .2)) ∙ ap (put _ _) (sym e),
+      omega (arith, w .write-bus .ensures .1, v .loop .inv .2),
+      w .write-bus .ensures .0 .1 ∙ stored-list _ _ _ (v .loop .inv .3) (v .loop .inv .1) _ (omega (arith, headed v .write-heading .ensures .1, headed-kept v, start v .pre .2)) ∙ ap (put _ _) (sym e),
     )
 
 same-length : tie.Need-same-length Inv-loop μ-loop
@@ -93,8 +93,7 @@ returns c =
     let s = start v in
     let h = headed v .write-heading .ensures in
     let all : v .loop .bus ≡ busCount (s .args .table .now) = omega (arith, headed v .before .before .bus-count .ensures .0, v .loop .inv .0, c .loop-test .left) in
-    let w = all-written (networkOf (s .args .table .now)) (s .args .out .now) (h .0 .0) (h .1) all (v .loop .inv .1) (v .loop .inv .3) in
-    ((w .0, omega (arith, h .0 .1, v .loop .inv .2, v .loop .inv .0, bounded v)), w .1)
+    (all-written (networkOf (s .args .table .now)) (s .args .out .now) (h .0) all (v .loop .inv .1, v .loop .inv .3), omega (arith, h .1, v .loop .inv .2, v .loop .inv .0, bounded v))
 
 pub write-lines-spec : {M : Type 1} → statement M
 write-lines-spec =

@@ -15,9 +15,9 @@ use Rattle.refusals.specs.Outcomes.{refuses}
 use Rattle.table_spec.specs.Limits.{maxBuses, maxLines, maxBytes}
 use Rattle.table_spec.specs.Holds.{within, needsInRange}
 use Rattle.table_spec.specs.Facts.{within-facts}
 use Rattle.file_spec.specs.FileBytes.{wordAt, fileBusCount, needsEnd, needBytes, fileLineCount, recordsAt, fileEnd}
 use Rattle.file_spec.specs.Sections.{endsBefore, goesOn}
-use Rattle.file_spec.specs.ReadOutcome.{readOutcome}
+use Rattle.read_spec.specs.ReadOutcome.{readOutcome}
 
 -- why a file that is longer than the largest is refused: by its front
 abbrev pub longNumber : List ℕ → ℕ

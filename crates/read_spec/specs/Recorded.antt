@@ -17,14 +17,14 @@ use Rattle.table_spec.specs.Facts.{needs-facts}
 use Rattle.table_spec.specs.Laid.{length-tableOf, made-busCount, made-needs, made-last, made-row, made-holds, made-beyond}
 use Rattle.table_spec.specs.LineCount.{two-for-each}
 use Rattle.network.specs.declared.Counts.{Counts}
 use Rattle.file_spec.specs.FileBytes.{fileBusCount, needBytes, fileLineCount, records}
 use Rattle.file_spec.specs.Sections.{counts, soundEnds}
 use Rattle.file_spec.specs.SoundSections.{length-needBytes, ends-facts}
 use Rattle.file_spec.specs.Records.{neighbours}
 use Rattle.file_spec.specs.RecordPairs.{joined-sym, rows-length}
 use Rattle.file_spec.specs.RecordNeighbours.{neighbours-valid, neighbours-short, neighbours-joined}
-use Rattle.file_spec.specs.ReadOutcome.{readCauses, readOutcome, fileTable, storedTable, tableAfter, AsRecorded, Recorded}
-use Rattle.file_spec.specs.ReadDecides.{ReadDue, whole, sound-ends, none-too-high, none-repeated, table-stored}
+use Rattle.read_spec.specs.ReadOutcome.{readCauses, readOutcome, fileTable, storedTable, tableAfter, AsRecorded, Recorded}
+use Rattle.read_spec.specs.ReadDecides.{ReadDue, whole, sound-ends, none-too-high, none-repeated, table-stored}
 
 -- a refused Read changes nothing
 pub kept : (f t : List ℕ) {k : ℕ} → readOutcome f (length t) ≡ refuses k → tableAfter f t ≡ t

@@ -8,10 +8,10 @@ use Rattle.lists.specs.Below.{allBelow, anyBelow, sumBelow, joinBelow, mapBelow
 use Rattle.refusals.specs.Outcomes.{gives, refuses}
 use Rattle.table_spec.specs.Layout.{laid, tableOf}
 use Rattle.table_spec.specs.Holds.{within, needsInRange}
 use Rattle.file_spec.specs.FileBytes.{wordAt, needBytes, records}
 use Rattle.file_spec.specs.Sections.{endsBefore, goesOn, twoBuses, soundEnds}
 use Rattle.file_spec.specs.Records.{names, joins, joined, neighbours, degreeTooHigh, repeats, repeated}
-use Rattle.file_spec.specs.ReadOutcome.{readOutcome, fileTable, storedTable, tableAfter}
+use Rattle.read_spec.specs.ReadOutcome.{readOutcome, fileTable, storedTable, tableAfter}
 
 -- a file: n buses and their needs, m lines and their records
 file : ℕ → List ℕ → ℕ → List ℕ → List ℕ

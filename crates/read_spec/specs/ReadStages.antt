@@ -8,8 +8,8 @@ use Rattle.refusals.specs.Outcomes.{Outcome, Cause}
 use Rattle.refusals.specs.Due.{Due}
 use Rattle.table_spec.specs.Layout.{tableOf}
 use Rattle.network.specs.declared.Counts.{Counts}
 use Rattle.file_spec.specs.Records.{neighbours}
-use Rattle.file_spec.specs.ReadOutcome.{degreeCauses, roomCauses, recordCauses}
+use Rattle.read_spec.specs.ReadOutcome.{degreeCauses, roomCauses, recordCauses}
 
 -- buses with the needs q, and m lines that give them these rows: what is answered, and what a slice that held t holds then, where these causes decide
 abbrev pub TableDue : List Cause → List ℕ → ℕ → (ℕ → List ℕ) → List ℕ → Outcome Counts → List ℕ → Type 0

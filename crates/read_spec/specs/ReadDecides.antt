@@ -11,12 +11,12 @@ use Rattle.refusals.specs.Outcomes.{Outcome, gives}
 use Rattle.refusals.specs.Causes.{NoneHolds, no-cause, none-gives, none-numbered, none-both}
 use Rattle.refusals.specs.Due.{Due, stage-pass}
 use Rattle.network.specs.declared.Counts.{Counts}
 use Rattle.file_spec.specs.FileBytes.{fileBusCount, needBytes, fileLineCount, records}
 use Rattle.file_spec.specs.Sections.{sectionCauses, counts, sectionsOutcome, soundEnds}
 use Rattle.file_spec.specs.SoundSections.{SoundSections, sections-passed, length-needBytes}
 use Rattle.file_spec.specs.Records.{degreeTooHigh, repeated}
-use Rattle.file_spec.specs.ReadStages.{RecordsDue}
-use Rattle.file_spec.specs.ReadOutcome.{recordCauses, readCauses, readOutcome, fileTable, storedTable, tableAfter}
+use Rattle.read_spec.specs.ReadStages.{RecordsDue}
+use Rattle.read_spec.specs.ReadOutcome.{recordCauses, readCauses, readOutcome, fileTable, storedTable, tableAfter}
 
 -- what is due of Read, where a slice that held t is lent
 abbrev pub ReadDue : List ℕ → List ℕ → Outcome Counts → List ℕ → Type 0
