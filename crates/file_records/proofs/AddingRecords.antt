@@ -23,7 +23,6 @@ use Rattle.file_spec.specs.FileBytes.{firstEnd, secondEnd}
 use Rattle.file_spec.specs.SoundSections.{TwoBuses}
 use Rattle.file_spec.specs.Records.{joins, joined, neighbours, repeats, repeated}
 use Rattle.file_records.specs.RecordsInSlots.{SoundRecords, NeighboursInSlots, RecordAfter, RecordsAfter}
-use Rattle.file_spec.specs.RecordNeighbours.{TooManyNeighbours}
 use Rattle.file_spec.specs.RecordPairs.{joined-sym, joined-next, joined-again, neighbours-grows}
 use Rattle.file_records.proofs.CountingNames.{read-ends, read-low}
 

@@ -9,9 +9,9 @@ use native.Mathlib.Omega.{arith}
 use lib.Dec.{eqb, ltb}
 use lib.ListN.{length}
 use borrow.Author.Tests.{eqb-true, eqb-false, ltb-true, ltb-false, lt-ltb, le-ltb}
-use Rattle.lists.specs.Lists.{indicator, sumBy, count, _∈_, has, Once, at}
+use Rattle.lists.specs.Lists.{indicator, sumBy, count, _∈_, has, Once}
 use Rattle.lists.specs.Below.{sumBelow, countBelow, largestBelow, joinBelow, mapBelow, range}
-use Rattle.lists.specs.Tests.{split, passes}
+use Rattle.lists.specs.Tests.{split}
 use Rattle.lists.specs.Sums.{indicator-le, sumBy-append, sumBy-add, sumBy-ones}
 use Rattle.lists.specs.Counts.{count-append, sumBy-cong-in, sumBy-single, sumBy-part}
 use Rattle.lists.specs.Loops.{last-or}

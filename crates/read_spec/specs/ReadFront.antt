@@ -8,7 +8,7 @@ use borrow.Author.Tests.{leb-true, leb-false, lt-ltb, le-ltb}
 use lib.Dec.{leb}
 use lib.ListN.{length, take, drop, take-append-drop}
 use lib.Seq.{take-all, length-take-le}
-use Rattle.lists.specs.Lists.{at, part}
+use Rattle.lists.specs.Lists.{part}
 use Rattle.lists.specs.Tests.{split}
 use Rattle.lists.specs.Places.{at-take, part-append}
 use Rattle.refusals.specs.Outcomes.{refuses}

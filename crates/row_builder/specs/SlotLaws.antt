@@ -6,7 +6,7 @@ use Prim.Native.Nat.{ℕ, _+_, _-_, _*_, _≤_, _<_}
 use native.Mathlib.Omega.{arith}
 use lib.ListN.{length, take, drop, length-drop}
 use lib.Seq.{length-take-le}
-use Rattle.lists.specs.Lists.{has, at, part}
+use Rattle.lists.specs.Lists.{at, part}
 use Rattle.lists.specs.Below.{sumBelow, joinBelow}
 use Rattle.lists.specs.SumsBelow.{sumBelow-same}
 use Rattle.lists.specs.JoinBelow.{length-joinBelow}

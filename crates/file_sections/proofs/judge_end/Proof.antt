@@ -7,7 +7,6 @@ use Prim.Native.Nat.{ℕ}
 use Rattle.refusals.specs.Outcomes.{gives, outcome}
 use Rattle.refusals.specs.Causes.{no-cause}
 use Rattle.refusals.specs.Due.{answer, stop, pass, accept, stage-stop, stage-pass}
-use Rattle.network.specs.declared.Counts.{Counts}
 use Rattle.file_spec.specs.FileBytes.{fileEnd}
 use Rattle.file_spec.specs.Sections.{missingCauses, endCauses, counts}
 use Rattle.file_sections.specs.FileAnswers.{outcomeOfCount}

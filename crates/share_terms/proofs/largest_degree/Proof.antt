@@ -7,7 +7,7 @@ use Prim.Native.Nat.{_-_, _≤_}
 use lib.ListN.{length}
 use Rattle.lists.specs.Below.{largestBelow}
 use Rattle.lists.specs.Loops.{by-end, largestBelow-rises, largestBelow-stays}
-use Rattle.table_spec.specs.Layout.{busCount, degree}
+use Rattle.table_spec.specs.Layout.{degree}
 use Rattle.share_spec.specs.TableNetwork.{largestDegree}
 use Rattle.share_terms.proofs.largest_degree.Statement.{statement}
 use Rattle.share_terms.proofs.largest_degree.Tie as tie

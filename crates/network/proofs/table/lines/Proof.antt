@@ -1,6 +1,5 @@
 -- `network::table::lines` meets its contract.
 use borrow.Author.Needs.{needs}
-use Rattle.table_spec.specs.Layout.{neighbourNumbers}
 use Rattle.table_spec.specs.LineCount.{half}
 use Rattle.network.proofs.table.lines.Statement.{statement}
 use Rattle.network.proofs.table.lines.Tie as tie
