@@ -16,7 +16,7 @@ pub record Island (ps is : List ℕ) (g : Game) : Type 0 where
 
 -- h is the game g by other numbers: number u of the numbers qs stands for bus f u
 pub record Renumbered (f : ℕ → ℕ) (qs : List ℕ) (g h : Game) : Type 0 where
-  pub watching : (u : ℕ) → u ∈ qs → (w : ℕ) → w ∈ qs → has w (h .watchers u) ≡ has (f w) (g .watchers (f u))
+  pub watchers : (u : ℕ) → u ∈ qs → (w : ℕ) → w ∈ qs → has w (h .watchers u) ≡ has (f w) (g .watchers (f u))
   pub needs : (u : ℕ) → u ∈ qs → h .need u ≡ g .need (f u)
   pub weights : (u : ℕ) → u ∈ qs → h .weight u ≡ g .weight (f u)
 

@@ -28,16 +28,16 @@ module _ {A : Type 0} where
 
   -- what a call answers is o, as is due: it gives these values
   pub accepted : {o answer : Outcome A} {values x : A} → answer ≡ gives values → answer ≡ o → ByStatus o x 0 values
-  accepted {x = x} says due =
-      let e = sym says ∙ due in
+  accepted {x = x} answers due =
+      let e = sym answers ∙ due in
       record { status = ap statusOf e; values = ap (valuesOr x) e }
 
   -- or it refuses with the number k
   pub refused : {o answer : Outcome A} {k r : ℕ} {x : A} → answer ≡ refuses k → r ≡ k → answer ≡ o → ByStatus o x r x
-  refused {x = x} says n due =
-      let e = sym says ∙ due in
+  refused {x = x} answers n due =
+      let e = sym answers ∙ due in
       record { status = n ∙ ap statusOf e; values = ap (valuesOr x) e }
 
   -- what holds of a refusal holds of its status, whatever stands in the lent places
   pub status-keeps : (P : Outcome A → Type 0) (cause : Refusal) (values : A) {answer : Outcome A} {r : ℕ} → answer ≡ refuses (numberOf cause) → r ≡ numberOf cause → P answer → P (outcomeOfStatus r values)
-  status-keeps P cause values says n p = rw (n, status-refused (numberOf cause) values (number-pos cause)) (subst P says p)
+  status-keeps P cause values answers n p = rw (n, status-refused (numberOf cause) values (number-pos cause)) (subst P answers p)

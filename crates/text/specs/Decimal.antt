@@ -76,7 +76,7 @@ module _ (P : ℕ → Type 0) (small : (n : ℕ) → n < 10 → P n) (large : (n
   by-tenths : (n : ℕ) → P n
   by-tenths n = by-tenths-bounded n n (le-refl n)
 
--- it is the number
+-- which is the number itself
 pub decimal-value : (n : ℕ) → digitsValue 0 (decimal n) ≡ n
 decimal-value =
     by-tenths (λ n. digitsValue 0 (decimal n) ≡ n)
