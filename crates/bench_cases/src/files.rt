@@ -31,7 +31,7 @@ fn write_buses(file: &mut [u8], buses: usize)
 }
 
 // The line count, and records of lines from bus 0 to the buses after it.
-fn write_lines(file: &mut [u8], lines: usize)
+fn write_records(file: &mut [u8], lines: usize)
     requires { ⌜ (2 + 4 * lines ≤ length (now file)) × (lines < 65536) ⌝ }
 {
     write_word(file, 0, lines);
@@ -50,6 +50,6 @@ pub fn write_star(file: &mut [u8], buses: usize, lines: usize) -> usize
 {
     write_buses(file, buses);
     let records = 2 + buses;
-    write_lines(&mut file[records..], lines);
+    write_records(&mut file[records..], lines);
     records + 2 + 4 * lines
 }

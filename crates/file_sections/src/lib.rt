@@ -44,7 +44,7 @@ pub fn word(bytes: &[u8], i: usize) -> usize
 }
 
 // The need bytes of a file of n buses.
-pub fn needs(file: &[u8], n: usize) -> &[u8]
+pub fn need_bytes(file: &[u8], n: usize) -> &[u8]
     requires { ⌜ (n ≡ fileBusCount (now file)) × (needsEnd (now file) ≤ length (now file)) ⌝ }
     ensures { λ r. ⌜ now r ≡ needBytes (now (file .entry)) ⌝ }
 {
@@ -87,7 +87,7 @@ pub fn bus_section(file: &[u8]) -> Counted
     if file.len() < 2 + n {
         return Counted::Refused(Refusal::FileTooShort);
     }
-    if !needs_in_range(needs(file, n)) {
+    if !needs_in_range(need_bytes(file, n)) {
         return Counted::Refused(Refusal::Need);
     }
     Counted::Is(n)

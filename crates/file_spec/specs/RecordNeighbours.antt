@@ -57,9 +57,9 @@ module _ (n m : ℕ) (r : List ℕ) (sound : soundEnds n m r ≡ true) where
   neighbours-short free i l = omega (arith, neighbours-le n m r (ends-facts n m r sound) i m (omega arith), names-le n m r free i l)
 
   -- a bus with too many neighbours stands in too many records
-  pub too-many-high : TooManyNeighbours n m r → degreeTooHigh n m r ≡ true
+  pub neighbours-too-high : TooManyNeighbours n m r → degreeTooHigh n m r ≡ true
   unfolding degreeTooHigh
-  too-many-high w =
+  neighbours-too-high w =
       anyBelow-by (λ b. ltb maxDegree (countBelow m (names r b))) n (w .bus) (w .low)
       (lt-ltb maxDegree (countBelow m (names r (w .bus))) (omega (arith, w .many, neighbours-le n m r (ends-facts n m r sound) (w .bus) m (omega arith))))
 

@@ -17,7 +17,7 @@ use file_records::degree_too_high;
 pub use file_sections::Counts;
 pub use file_sections::Reading;
 use file_sections::judge;
-use file_sections::needs;
+use file_sections::need_bytes;
 use file_sections::records;
 use file_sections::sound_ends;
 use network::Network;
@@ -100,7 +100,7 @@ pub fn read(file: &[u8], table: &mut [u16]) -> Reading
         Reading::Refused(cause) => Reading::Refused(cause),
         Reading::Accepted(counts) => {
             let n = counts.buses;
-            read_records(needs(file, n), records(file, n), counts.lines, table)
+            read_records(need_bytes(file, n), records(file, n), counts.lines, table)
         }
     }
 }

@@ -10,13 +10,13 @@ use network::table::neighbours;
 use network::table::row_start;
 use table_check::holds;
 
-// How many neighbours a bus has, or why it is not said.
+// How many neighbours a bus has, or why that is refused.
 pub enum BusDegree {
     Is(usize),
     Refused(Refusal),
 }
 
-// Where a bus's row begins in the lent table, and how many entries it has, or why it is not said.
+// Where a bus's row begins in the lent table, and how many entries it has, or why that is refused.
 pub enum RowPlace {
     At(usize, usize),
     Refused(Refusal),

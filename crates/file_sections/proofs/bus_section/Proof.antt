@@ -19,8 +19,8 @@ use Rattle.file_sections.proofs.bus_section.Tie as tie
 judged : (c : tie.After-within) → c .within .result ≡ within 1 maxBuses (fileBusCount (c .before .before .before .before .args .file .now))
 judged c = c .within .ensures ∙ ap (within 1 maxBuses) (c .before .word .ensures .0)
 
-fair : (c : tie.After-needs-in-range) → c .needs-in-range .result ≡ needsInRange (needBytes (c .before .before .before .before .before .before .before .before .args .file .now))
-fair c = c .needs-in-range .ensures ∙ ap needsInRange (c .before .needs .ensures)
+in-range : (c : tie.After-needs-in-range) → c .needs-in-range .result ≡ needsInRange (needBytes (c .before .before .before .before .before .before .before .before .args .file .now))
+in-range c = c .needs-in-range .ensures ∙ ap needsInRange (c .before .need-bytes .ensures)
 
 returns : tie.Need-returns
 returns c = answer (busSectionCauses _) (fileBusCount _) (stop (cut _ _ (c .if1 .taken)))
@@ -37,12 +37,12 @@ returns-3 : tie.Need-returns-3
 returns-3 c = counted (c .before) (stop (cut _ _ (omega arith)))
 
 returns-4 : tie.Need-returns-4
-returns-4 c = counted (c .before .before .before .before) (pass (reaches _ _ (omega arith)) (stop (negated (fair (c .before)) (c .if4 .taken))))
+returns-4 c = counted (c .before .before .before .before) (pass (reaches _ _ (omega arith)) (stop (negated (in-range (c .before)) (c .if4 .taken))))
 
 returns-5 : tie.Need-returns-5
 returns-5 c =
     let e = c .before .before .before .before in
-    counted e (pass (reaches _ _ (omega arith)) (pass (negated (fair (c .before)) (c .if4 .left)) (accept (e .before .before .word .ensures .0) refl)))
+    counted e (pass (reaches _ _ (omega arith)) (pass (negated (in-range (c .before)) (c .if4 .left)) (accept (e .before .before .word .ensures .0) refl)))
 
 pub bus-section-spec : {M : Type 1} → statement M
 bus-section-spec =

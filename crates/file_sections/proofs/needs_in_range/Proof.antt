@@ -1,4 +1,4 @@
--- `file_sections::needs_in_range` meets its contract. The loop's invariant: the needs passed are fair.
+-- `file_sections::needs_in_range` meets its contract. The loop's invariant: the needs passed are in range.
 use borrow.Author.Needs.{needs}
 use native.Mathlib.Omega.{arith}
 use mathlib.Core.Bool.{true}

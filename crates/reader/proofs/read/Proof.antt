@@ -19,8 +19,8 @@ use Rattle.reader.proofs.read.Tie as tie
 judged : (c : tie.After-counts) → sectionsOutcome (c .before .before .before .before .before .args .file .now) ≡ gives (c .counts .given .0 .0)
 judged c = sym (c .before .before .judge .ensures) ∙ ap outcomeOfReading (c .counts .given .1)
 
-needs-requires : tie.Need-needs-requires
-needs-requires c κs = let e = judged (c .before) in (ap (λ n. n .buses) (counted _ e), sound _ e .first .complete)
+need-bytes-requires : tie.Need-need-bytes-requires
+need-bytes-requires c κs = let e = judged (c .before) in (ap (λ n. n .buses) (counted _ e), sound _ e .first .complete)
 
 records-requires : tie.Need-records-requires
 records-requires c κs = let e = judged (c .before .before) in (ap (λ n. n .buses) (counted _ e), sound _ e)
@@ -31,7 +31,7 @@ read-records-requires c κs =
     let e = judged (p .before .before) in
     let w = sound _ e in
     let z = ap (λ n. n .lines) (counted _ e) in (
-      omega (arith, ap length (p .needs .ensures), length-needBytes w, w .first .buses),
+      omega (arith, ap length (p .need-bytes .ensures), length-needBytes w, w .first .buses),
       omega (arith, z, w .lines),
       omega (arith, z, ap length (c .before .records .ensures), length-records w),
     )
@@ -54,7 +54,7 @@ returns-2 c =
     let f = a .file .now in
     let t = a .table .now in
     read-recorded f t
-    (records-decide f (judged k) t (p .needs .ensures) (ap (λ n. n .lines) (counted f (judged k))) (r .before .before .records .ensures) (r .read-records .ensures))
+    (records-decide f (judged k) t (p .need-bytes .ensures) (ap (λ n. n .lines) (counted f (judged k))) (r .before .before .records .ensures) (r .read-records .ensures))
 
 pub read-spec : {M : Type 1} → statement M
 read-spec =
@@ -63,7 +63,7 @@ read-spec =
     (λ c κs. search needs)
     (λ c. search needs)
     (λ c. search needs)
-    needs-requires
+    need-bytes-requires
     records-requires
     read-records-requires
     returns

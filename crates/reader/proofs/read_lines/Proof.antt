@@ -8,7 +8,7 @@ use Rattle.sorted_row.specs.declared.Inserted.{Inserted}
 use Rattle.sorted_row.specs.declared.Inserted.the-variants.{Added, Present, Full}
 use Rattle.file_spec.specs.Records.{degreeTooHigh}
 use Rattle.file_records.specs.RecordsInSlots.{RecordsAfter}
-use Rattle.file_spec.specs.RecordNeighbours.{too-many-high}
+use Rattle.file_spec.specs.RecordNeighbours.{neighbours-too-high}
 use Rattle.reader.proofs.Building.{rows-numbers, rows-stored}
 use Rattle.reader.proofs.read_lines.Statement.{statement}
 use Rattle.reader.proofs.read_lines.Tie as tie
@@ -31,7 +31,7 @@ answered p q e = let a = start p .args in subst (λ q. RecordsAfter q (length (a
 returns-2 : tie.Need-returns-2
 returns-2 c =
     let p = c .before .before .before in
-    stop (too-many-high _ _ _ (start p .pre .1 .sound) (answered p Full (c .enum-told .given .1)))
+    stop (neighbours-too-high _ _ _ (start p .pre .1 .sound) (answered p Full (c .enum-told .given .1)))
 
 returns-3 : tie.Need-returns-3
 returns-3 c = let p = c .before .before .before in pass (free p) (stop (answered p Present (c .enum-told2 .given .1)))

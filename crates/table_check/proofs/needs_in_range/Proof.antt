@@ -1,4 +1,4 @@
--- `table_check::needs_in_range` meets its contract. The loop's invariant: the needs passed are fair.
+-- `table_check::needs_in_range` meets its contract. The loop's invariant: the needs passed are in range.
 use borrow.Author.Needs.{needs}
 use mathlib.Core.Bool.{true}
 use mathlib.Core.Path.{_≡_, sym, ap, _∙_}
