@@ -53,8 +53,8 @@ module _ (n m : ℕ) (r : List ℕ) (sound : soundEnds n m r ≡ true) where
         ascends = listBelow-ascends n (joined m r i);
       }
 
-  pub neighbours-short : degreeTooHigh n m r ≡ false → (i : ℕ) → i < n → length (neighbours n m r i) ≤ maxDegree
-  neighbours-short free i l = omega (arith, neighbours-le n m r (ends-facts n m r sound) i m (omega arith), names-le n m r free i l)
+  pub neighbours-max-le : degreeTooHigh n m r ≡ false → (i : ℕ) → i < n → length (neighbours n m r i) ≤ maxDegree
+  neighbours-max-le free i l = omega (arith, neighbours-le n m r (ends-facts n m r sound) i m (omega arith), names-le n m r free i l)
 
   -- a bus with too many neighbours stands in too many records
   pub neighbours-too-high : TooManyNeighbours n m r → degreeTooHigh n m r ≡ true
