@@ -60,10 +60,6 @@ module _ (n m : ℕ) (r : List ℕ) where
   abbrev tooMany : ℕ → Bool
   tooMany b = ltb maxDegree (length (neighbours n m r b))
 
-  pub degree-le : degreeTooHigh n m r ≡ false → (i : ℕ) → i < n → length (neighbours n m r i) ≤ maxDegree
-  unfolding degreeTooHigh
-  degree-le h i l = ltb-false maxDegree _ (anyBelow-none tooMany n h l)
-
   pub none-too-high : ((i : ℕ) → i < n → length (neighbours n m r i) ≤ maxDegree) → degreeTooHigh n m r ≡ false
   unfolding degreeTooHigh
   none-too-high h = anyBelow-fails tooMany n (λ i l. le-ltb maxDegree _ (h i l))
@@ -71,6 +67,10 @@ module _ (n m : ℕ) (r : List ℕ) where
   pub one-too-high : (i : ℕ) → i < n → maxDegree < length (neighbours n m r i) → degreeTooHigh n m r ≡ true
   unfolding degreeTooHigh
   one-too-high i l h = anyBelow-by tooMany n i l (lt-ltb maxDegree _ h)
+
+  pub degree-le : degreeTooHigh n m r ≡ false → (i : ℕ) → i < n → length (neighbours n m r i) ≤ maxDegree
+  unfolding degreeTooHigh
+  degree-le h i l = ltb-false maxDegree _ (anyBelow-none tooMany n h l)
 
 -- a degree that is too high by the first records is so by all
 pub too-high-grows : (n k m : ℕ) (r : List ℕ) → k ≤ m → degreeTooHigh n k r ≡ true → degreeTooHigh n m r ≡ true

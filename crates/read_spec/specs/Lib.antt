@@ -5,3 +5,4 @@ pub mod ReadExamples
 pub mod ReadDecides
 pub mod Recorded
 pub mod ReadFront
+pub mod ReadRoom

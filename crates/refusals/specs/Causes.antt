@@ -3,6 +3,7 @@ use mathlib.Core.Bool.{Bool, true, false, cond, _||_, true≢false}
 use mathlib.Core.List.{List, [], _∷_, _++_}
 use mathlib.Core.Path.{_≡_, refl, sym, ap, _∙_}
 use Prim.Native.Nat.{ℕ}
+use borrow.Author.Tests.{eq-eqb}
 use lib.Dec.{eqb}
 use Rattle.refusals.specs.Numbers.{numberOf}
 use Rattle.refusals.specs.Outcomes.{Outcome, gives, refuses, Cause, outcome, valuesOr}
@@ -10,6 +11,10 @@ use Rattle.refusals.specs.Outcomes.{Outcome, gives, refuses, Cause, outc
 abbrev given : {A : Type 0} → Outcome A → Bool
 given (gives values) = true
 given (refuses number) = false
+
+abbrev number : {A : Type 0} → Outcome A → ℕ
+number (gives values) = 0
+number (refuses k) = k
 
 -- no call does both
 not-both : {A : Type 0} {w : A} {k : ℕ} → gives w ≡ refuses k → ⊥
@@ -47,6 +52,20 @@ none-numbered k (c ∷ cs) h = go (eqb (numberOf (c .refusal)) k) (none-numbered
     go : (b : Bool) → numbered k cs ≡ false → cond b (c .test || numbered k cs) (numbered k cs) ≡ false
     go true e = rw (h .0) e
     go false e = e
+
+-- a call that is refused with a number has a cause of that number
+pub refused-numbered : {A : Type 0} (k : ℕ) (cs : List Cause) (values : A) → outcome cs values ≡ refuses k → numbered k cs ≡ true
+refused-numbered k [] values e = absurd (not-both e)
+refused-numbered k (c ∷ cs) values e = go (c .test) (refused-numbered k cs values) e
+  where
+    either : (b : Bool) {x : Bool} → x ≡ true → cond b x x ≡ true
+    either true e = e
+    either false e = e
+
+    go : (t : Bool) → (outcome cs values ≡ refuses k → numbered k cs ≡ true) → cond t (refuses (numberOf (c .refusal))) (outcome cs values) ≡ refuses k
+        → cond (eqb (numberOf (c .refusal)) k) (t || numbered k cs) (numbered k cs) ≡ true
+    go true h q = rw (eq-eqb (numberOf (c .refusal)) k (ap number q))
+    go false h q = either (eqb (numberOf (c .refusal)) k) (h q)
 
 -- ---- two lists of causes, one behind the other
 

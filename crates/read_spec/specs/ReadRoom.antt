@@ -1,0 +1,40 @@
+-- The entries of the largest table are enough for every file.
+use mathlib.Core.Bool.{true≢false, or-false}
+use mathlib.Core.List.{List}
+use mathlib.Core.Path.{_≡_, refl, sym, _∙_}
+use Prim.Native.Nat.{ℕ, _≤_, _<_}
+use native.Mathlib.Omega.{arith}
+use borrow.Author.Tests.{ltb-true}
+use Rattle.refusals.specs.Outcomes.{Outcome, gives, refuses, Cause}
+use Rattle.refusals.specs.Causes.{refused-numbered, first-refuses, then-decides}
+use Rattle.table_spec.specs.Limits.{maxEntries}
+use Rattle.table_spec.specs.Layout.{tableEntries}
+use Rattle.network.specs.declared.Counts.{Counts}
+use Rattle.file_spec.specs.FileBytes.{fileBusCount, fileLineCount, records}
+use Rattle.file_spec.specs.Sections.{sectionCauses, counts, sectionsOutcome}
+use Rattle.file_spec.specs.SoundSections.{SoundSections}
+use Rattle.file_spec.specs.Records.{filePairCount}
+use Rattle.file_spec.specs.RecordPairs.{pairCount-le}
+use Rattle.read_spec.specs.ReadOutcome.{recordCauses, networkCounts, readOutcome}
+use Rattle.read_spec.specs.ReadDecides.{sound}
+
+module _ (f : List ℕ) (lent : ℕ) where
+  abbrev rest : List Cause
+  rest = recordCauses (fileBusCount f) (fileLineCount f) (records f) lent
+
+  -- a file that is refused with 10 has sound sections, and its table would have more entries than are lent
+  by-sections : (o : Outcome Counts) → sectionsOutcome f ≡ o → readOutcome f lent ≡ refuses 10
+      → SoundSections f × (lent < tableEntries (fileBusCount f) (filePairCount f))
+  by-sections (gives c) s e = (
+    sound f s,
+    ltb-true lent (tableEntries (fileBusCount f) (filePairCount f))
+        (sym (or-false _) ∙ (refused-numbered 10 rest (networkCounts f) (sym (then-decides rest (counts f) (networkCounts f) (sectionCauses f) s) ∙ e))),
+  )
+  by-sections (refuses k) s e =
+      absurd (true≢false (sym (refused-numbered 10 (sectionCauses f) (counts f) (s ∙ sym (first-refuses rest (counts f) (networkCounts f) (sectionCauses f) s) ∙ e))))
+
+  -- NEVER SHORT: where so many are lent, none is refused for want of them
+  pub never-short : maxEntries ≤ lent → readOutcome f lent ≡ refuses 10 → ⊥
+  never-short room e =
+      let w = by-sections (sectionsOutcome f) refl e in
+      omega (arith, w .1, w .0 .first .buses, w .0 .lines, pairCount-le (fileLineCount f) (records f))
