@@ -1,5 +1,5 @@
 -- The rows, a record at a time.
-use mathlib.Core.Bool.{true, false, cond, _&&_, _||_, or-assoc, and-comm, true≢false}
+use mathlib.Core.Bool.{true, false, cond, not, _&&_, _||_, or-assoc, and-comm, true≢false}
 use mathlib.Core.List.{List}
 use mathlib.Core.Path.{_≡_, sym, ap, ap₂, _∙_}
 use Prim.Native.Nat.{ℕ, _+_, _<_}
@@ -7,10 +7,10 @@ use native.Mathlib.Omega.{arith}
 use borrow.Author.Tests.{ne-eqb}
 use lib.Dec.{eqb}
 use lib.ListN.{length}
-use Rattle.lists.specs.Lists.{has}
+use Rattle.lists.specs.Lists.{indicator, has}
 use Rattle.lists.specs.Below.{anyBelow}
 use Rattle.lists.specs.Tests.{never-both, eqb-self}
-use Rattle.lists.specs.Loops.{anyBelow-by}
+use Rattle.lists.specs.Loops.{sumBelow-next}
 use Rattle.lists.specs.ListBelow.{listBelow-same, listBelow-none, has-listBelow}
 use Rattle.table_spec.specs.Limits.{maxBuses}
 use Rattle.sorted_row.specs.declared.Inserted.{Inserted}
@@ -18,13 +18,14 @@ use Rattle.sorted_row.specs.declared.Inserted.the-variants.{Added, Present, Ful
 use Rattle.sorted_row.specs.Insertion.{insert, isAdded}
 use Rattle.sorted_row.specs.InsertionLaws.{insert-length, insert-listBelow-if}
 use Rattle.row_builder.specs.RowsInSlots.{maxSlots, rowInSlots, AllZero, RowsAfter}
-use Rattle.row_builder.specs.SlotLaws.{slots-zero, rows-zero}
+use Rattle.row_builder.specs.SlotLaws.{slots-length, slots-zero, rows-zero}
 use Rattle.file_spec.specs.FileBytes.{firstEnd, secondEnd}
 use Rattle.file_spec.specs.SoundSections.{TwoBuses}
-use Rattle.file_spec.specs.Records.{joins, joined, neighbours, repeats, repeated}
-use Rattle.file_records.specs.RecordsInSlots.{SoundRecords, NeighboursInSlots, RecordAfter, RecordsAfter}
-use Rattle.file_spec.specs.RecordPairs.{joined-sym, joined-next, joined-again, neighbours-grows}
-use Rattle.file_records.proofs.CountingNames.{read-ends, read-low}
+use Rattle.file_spec.specs.Records.{joins, joined, neighbours, degreeTooHigh, repeats, pairCount}
+use Rattle.file_spec.specs.RecordPairs.{joined-sym, joined-next, joined-again}
+use Rattle.file_spec.specs.RecordNeighbours.{none-too-high, one-too-high}
+use Rattle.file_records.specs.RecordsInSlots.{SoundRecords, NeighboursInSlots, RecordAfter}
+use Rattle.file_records.proofs.ReadEnds.{read-ends, read-low}
 
 -- without records no bus has a neighbour
 pub in-slots-none : (n : ℕ) (r : List ℕ) {slots counts : List ℕ} → length slots ≡ maxSlots → AllZero counts → NeighboursInSlots n 0 r slots counts
@@ -70,18 +71,15 @@ module _ {n m k : ℕ} {r : List ℕ} (g : SoundRecords n m r) (b : k < m) {x y 
     -- then it adds nothing
     again : repeats r k ≡ true → NeighboursInSlots n (k + 1) r slots counts
     unfolding neighbours
-    again h = record { rows = w .rows; each = λ i l. w .each i l ∙ sym (listBelow-same _ _ n (λ j z. joined-again k r i j h)) }
+    again h = record { rows = w .rows; each = λ i l. w .each i l ∙ sym (listBelow-same _ _ n (λ j z. joined-next k r i j ∙ joined-again k r i j h)) }
 
     -- y was not added to row x
     pub first-stops : (q : Inserted) (s c : List ℕ) → isAdded q ≡ false → RowsAfter q y x slots counts s c → RecordAfter q n k r s c
     first-stops Added s c z o = absurd (true≢false z)
     first-stops Present s c z o = let h = sym seen ∙ o .0 in (h, rw (o .1, o .2) (again h))
     first-stops Full s c z o =
-        record {
-          bus = x;
-          low = two .0;
-          many = omega (arith, ap length first-row, insert-length y (neighbours n k r x) (sym (ap (has y) first-in-slots) ∙ o .0), ap length first-in-slots, o .1);
-        }
+        one-too-high n (k + 1) r x (two .0)
+        (omega (arith, ap length first-row, insert-length y (neighbours n k r x) (sym (ap (has y) first-in-slots) ∙ o .0), ap length first-in-slots, o .1))
 
     -- it was, and then x was to be added to row y
     module _ {s c : List ℕ} (o : RowsAfter Added y x slots counts s c) where
@@ -104,22 +102,21 @@ module _ {n m k : ℕ} {r : List ℕ} (g : SoundRecords n m r) (b : k < m) {x y 
           (sym seen ∙ o .0, record { rows = p .2 .rows; each = λ i l. p .2 .each i l ∙ ap (λ z. cond (eqb y i) (insert x z) z) (one i l) ∙ row-next i })
       then-second Present s′ c′ p = absurd (never-both (p .0) absent)
       then-second Full s′ c′ p =
-          record {
-            bus = y;
-            low = two .1;
-            many = omega (arith, ap length second-row, insert-length x (neighbours n k r y) (sym (ap (has x) second-in-slots) ∙ absent), ap length second-in-slots, p .1);
-          }
+          one-too-high n (k + 1) r y (two .1)
+          (omega (arith, ap length second-row, insert-length x (neighbours n k r y) (sym (ap (has x) second-in-slots) ∙ absent), ap length second-in-slots, p .1))
 
--- record k was not added to those before it
-module _ (n : ℕ) {m k : ℕ} (r : List ℕ) (b : k < m) where
-  pub records-stop : (q : Inserted) (s c : List ℕ) → isAdded q ≡ false → RecordAfter q n k r s c → RecordsAfter q n m r s c
-  unfolding repeated
-  records-stop Added s c z j = absurd (true≢false z)
-  records-stop Present s c z j = anyBelow-by (repeats r) m k b (j .0)
-  records-stop Full s c z j = record { bus = j .bus; low = j .low; many = omega (arith, j .many, neighbours-grows n (k + 1) m r (j .bus) (omega arith)) }
+-- how many different pairs there are after record k
+pub one-more : (r : List ℕ) (k : ℕ) {pairs : ℕ} → repeats r k ≡ false → pairs ≡ pairCount k r → pairs + 1 ≡ pairCount (k + 1) r
+unfolding pairCount
+one-more r k h e = omega (arith, e, sumBelow-next k (λ i. indicator (not (repeats r i))), ap (λ b. indicator (not b)) h)
 
-  -- or it was
-  pub records-go-on : (q : Inserted) (s c : List ℕ) → isAdded q ≡ true → RecordAfter q n k r s c → RecordAfter Added n k r s c
-  records-go-on Added s c z j = j
-  records-go-on Present s c z j = absurd (true≢false (sym z))
-  records-go-on Full s c z j = absurd (true≢false (sym z))
+pub as-many : (r : List ℕ) (k : ℕ) {pairs : ℕ} → repeats r k ≡ true → pairs ≡ pairCount k r → pairs ≡ pairCount (k + 1) r
+unfolding pairCount
+as-many r k h e = omega (arith, e, sumBelow-next k (λ i. indicator (not (repeats r i))), ap (λ b. indicator (not b)) h)
+
+-- all records were added: no bus has more neighbours than slots
+pub all-fit : {n m : ℕ} {r slots counts : List ℕ} → SoundRecords n m r → NeighboursInSlots n m r slots counts → degreeTooHigh n m r ≡ false
+all-fit {n} {m} {r} {slots} {counts} g w =
+    none-too-high n m r (λ i l.
+    let b : i < maxBuses = omega (arith, g .buses) in
+    omega (arith, ap length (w .each i b), slots-length (w .rows) b, w .rows .bounded i b))

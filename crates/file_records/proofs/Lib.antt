@@ -1,2 +1,2 @@
-pub mod CountingNames
+pub mod ReadEnds
 pub mod AddingRecords

@@ -1,30 +1,24 @@
--- What the steps of Read promise one another.
+-- What the steps that add records promise one another.
 -- Definitions only.
 use mathlib.Core.Bool.{true, false}
 use mathlib.Core.List.{List}
 use mathlib.Core.Path.{_≡_}
 use Prim.Native.Nat.{ℕ, _+_, _≤_, _<_}
-use lib.ListN.{length}
-use Rattle.lists.specs.Lists.{at}
-use Rattle.lists.specs.Below.{countBelow}
+use Rattle.refusals.specs.declared.Refusal.the-variants.{DegreeTooHigh}
 use Rattle.table_spec.specs.Limits.{maxBuses, maxLines}
 use Rattle.sorted_row.specs.declared.Inserted.{Inserted}
 use Rattle.sorted_row.specs.declared.Inserted.the-variants.{Added, Present, Full}
 use Rattle.row_builder.specs.RowsInSlots.{rowInSlots, RowsInSlots}
 use Rattle.file_spec.specs.Sections.{soundEnds}
-use Rattle.file_spec.specs.Records.{names, neighbours, repeats, repeated}
-use Rattle.file_spec.specs.RecordNeighbours.{TooManyNeighbours}
+use Rattle.file_spec.specs.Records.{neighbours, degreeTooHigh, repeats, pairCount}
+use Rattle.file_sections.specs.declared.Counted.{Counted}
+use Rattle.file_sections.specs.declared.Counted.the-variants.{Is, Refused}
 
 -- m records of a network of n buses, whose ends are sound
 pub record SoundRecords (n m : ℕ) (r : List ℕ) : Type 0 where
   pub buses : n ≤ maxBuses
   pub lines : m ≤ maxLines
   pub sound : soundEnds n m r ≡ true
-
--- how many of the first k records name each bus
-pub record NameCounts (k : ℕ) (r l : List ℕ) : Type 0 where
-  pub size : length l ≡ maxBuses
-  pub each : (b : ℕ) → at l b ≡ countBelow k (names r b)
 
 -- each bus has the neighbours that the first k records give it
 pub record NeighboursInSlots (n k : ℕ) (r slots counts : List ℕ) : Type 0 where
@@ -35,10 +29,9 @@ pub record NeighboursInSlots (n k : ℕ) (r slots counts : List ℕ) : Type 0 wh
 abbrev pub RecordAfter : Inserted → ℕ → ℕ → List ℕ → List ℕ → List ℕ → Type 0
 RecordAfter Added n k r slots counts = (repeats r k ≡ false) × NeighboursInSlots n (k + 1) r slots counts
 RecordAfter Present n k r slots counts = (repeats r k ≡ true) × NeighboursInSlots n (k + 1) r slots counts
-RecordAfter Full n k r slots counts = TooManyNeighbours n (k + 1) r
+RecordAfter Full n k r slots counts = degreeTooHigh n (k + 1) r ≡ true
 
--- and after all m records were, up to the first that was not added
-abbrev pub RecordsAfter : Inserted → ℕ → ℕ → List ℕ → List ℕ → List ℕ → Type 0
-RecordsAfter Added n m r slots counts = (repeated m r ≡ false) × NeighboursInSlots n m r slots counts
-RecordsAfter Present n m r slots counts = repeated m r ≡ true
-RecordsAfter Full n m r slots counts = TooManyNeighbours n m r
+-- and after all m records were: how many different pairs they name, or that they give a bus too many neighbours
+abbrev pub RecordsAfter : Counted → ℕ → ℕ → List ℕ → List ℕ → List ℕ → Type 0
+RecordsAfter (Is pairs) n m r slots counts = (degreeTooHigh n m r ≡ false) × (pairs ≡ pairCount m r) × NeighboursInSlots n m r slots counts
+RecordsAfter (Refused cause) n m r slots counts = (degreeTooHigh n m r ≡ true) × (cause ≡ DegreeTooHigh)

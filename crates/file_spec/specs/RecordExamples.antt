@@ -6,27 +6,29 @@ use Prim.Native.Nat.{ℕ, suc}
 use Rattle.lists.specs.Lists.{at}
 use Rattle.lists.specs.Below.{anyBelow, sumBelow, joinBelow, listBelow}
 use Rattle.file_spec.specs.FileBytes.{wordAt}
-use Rattle.file_spec.specs.Records.{names, joins, joined, neighbours, degreeTooHigh, repeats, repeated}
+use Rattle.file_spec.specs.Records.{joins, joined, neighbours, degreeTooHigh, repeats, pairCount}
 
 -- the record of a line from a to b
 line : ℕ → ℕ → List ℕ
 line a b = a ∷ 0 ∷ b ∷ 0 ∷ []
 
--- the scope's Path, its second record the other way round
-path-rows : map (neighbours 3 2 (line 0 1 ++ line 2 1)) (0 ∷ 1 ∷ 2 ∷ []) ≡ (1 ∷ []) ∷ (0 ∷ 2 ∷ []) ∷ (1 ∷ []) ∷ []
+-- the scope's Path, its second record the other way round, and its first named again
+path-rows : map (neighbours 3 3 (line 0 1 ++ line 2 1 ++ line 1 0)) (0 ∷ 1 ∷ 2 ∷ []) ≡ (1 ∷ []) ∷ (0 ∷ 2 ∷ []) ∷ (1 ∷ []) ∷ []
 unfolding line neighbours joined joins wordAt at listBelow joinBelow anyBelow
 path-rows = refl
 
--- a pair named again, either way round, and two pairs
-pairs-named : map (λ r. repeated 2 r) ((line 0 1 ++ line 0 1) ∷ (line 0 1 ++ line 1 0) ∷ (line 0 1 ++ line 1 2) ∷ []) ≡ true ∷ true ∷ false ∷ []
-unfolding line repeated repeats joined joins wordAt at anyBelow
-pairs-named = refl
+-- a pair named again, either way round; two pairs; one of two pairs named three times
+pairs-counted :
+    map (pairCount 2) ((line 0 1 ++ line 0 1) ∷ (line 0 1 ++ line 1 0) ∷ (line 0 1 ++ line 1 2) ∷ []) ++ map (pairCount 4) ((line 0 1 ++ line 1 2 ++ line 1 0 ++ line 0 1) ∷ [])
+    ≡ 1 ∷ 1 ∷ 2 ∷ 2 ∷ []
+unfolding line pairCount repeats joined joins wordAt at anyBelow sumBelow
+pairs-counted = refl
 
--- 23 records at bus 0, and 24, be it that the last repeats a pair
+-- bus 0 joined to 23 others, and to 24; 24 records that join it to 23
 spokes : ℕ → List ℕ
 unfolding line
 spokes m = joinBelow m (λ k. line 0 (suc k))
 
-too-high : (degreeTooHigh 24 23 (spokes 23) ≡ false) × (degreeTooHigh 25 24 (spokes 24) ≡ true) × (degreeTooHigh 24 24 (spokes 23 ++ line 23 0) ≡ true)
-unfolding spokes line degreeTooHigh names wordAt at joinBelow anyBelow sumBelow
+too-high : (degreeTooHigh 24 23 (spokes 23) ≡ false) × (degreeTooHigh 25 24 (spokes 24) ≡ true) × (degreeTooHigh 24 24 (spokes 23 ++ line 23 0) ≡ false)
+unfolding spokes line degreeTooHigh neighbours joined joins wordAt at listBelow joinBelow anyBelow
 too-high = (refl, refl, refl)

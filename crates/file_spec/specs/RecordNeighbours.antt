@@ -1,31 +1,24 @@
--- The neighbours that sound records give a bus: other buses of the network, ascending, no more than a bus may have lines where no degree is too high.
-use mathlib.Core.Bool.{true, false, _&&_}
+-- The neighbours that records give a bus: other buses of the network, ascending, where the ends are sound; and how many they may be.
+use mathlib.Core.Bool.{Bool, true, false, _&&_}
 use mathlib.Core.List.{List}
 use mathlib.Core.Logic.{⊎-elim}
 use mathlib.Core.Path.{_≡_, sym, _∙_}
 use Prim.Native.Nat.{ℕ, _≤_, _<_}
 use native.Mathlib.Omega.{arith}
-use borrow.Author.Tests.{ltb-true, ltb-false, eqb-true, lt-ltb}
+use borrow.Author.Tests.{ltb-true, ltb-false, eqb-true, lt-ltb, le-ltb}
 use lib.Dec.{ltb, eqb}
 use lib.ListN.{length}
 use Rattle.lists.specs.Lists.{has}
-use Rattle.lists.specs.Below.{countBelow}
 use Rattle.lists.specs.Tests.{split, fails, and-left, and-right, or-cases}
-use Rattle.lists.specs.Loops.{anyBelow-at, anyBelow-by}
+use Rattle.lists.specs.Loops.{anyBelow-at, anyBelow-by, anyBelow-none, anyBelow-fails}
 use Rattle.lists.specs.ListBelow.{count-listBelow, has-listBelow, listBelow-in, listBelow-ascends}
 use Rattle.table_spec.specs.Limits.{maxDegree}
 use Rattle.table_spec.specs.Holds.{ValidRow}
 use Rattle.file_spec.specs.FileBytes.{firstEnd, secondEnd}
 use Rattle.file_spec.specs.Sections.{soundEnds}
 use Rattle.file_spec.specs.SoundSections.{ends-facts}
-use Rattle.file_spec.specs.Records.{names, joins, joined, neighbours, degreeTooHigh}
-use Rattle.file_spec.specs.RecordPairs.{neighbours-le, names-le}
-
--- a bus has more different neighbours in the first k records than it may have lines
-pub record TooManyNeighbours (n k : ℕ) (r : List ℕ) : Type 0 where
-  pub bus : ℕ
-  pub low : bus < n
-  pub many : maxDegree < length (neighbours n k r bus)
+use Rattle.file_spec.specs.Records.{joins, joined, neighbours, degreeTooHigh}
+use Rattle.file_spec.specs.RecordPairs.{neighbours-grows}
 
 module _ (n m : ℕ) (r : List ℕ) (sound : soundEnds n m r ≡ true) where
   -- who is joined is a bus, and another one
@@ -53,16 +46,6 @@ module _ (n m : ℕ) (r : List ℕ) (sound : soundEnds n m r ≡ true) where
         ascends = listBelow-ascends n (joined m r i);
       }
 
-  pub neighbours-max-le : degreeTooHigh n m r ≡ false → (i : ℕ) → i < n → length (neighbours n m r i) ≤ maxDegree
-  neighbours-max-le free i l = omega (arith, neighbours-le n m r (ends-facts n m r sound) i m (omega arith), names-le n m r free i l)
-
-  -- a bus with too many neighbours stands in too many records
-  pub neighbours-too-high : TooManyNeighbours n m r → degreeTooHigh n m r ≡ true
-  unfolding degreeTooHigh
-  neighbours-too-high w =
-      anyBelow-by (λ b. ltb maxDegree (countBelow m (names r b))) n (w .bus) (w .low)
-      (lt-ltb maxDegree (countBelow m (names r (w .bus))) (omega (arith, w .many, neighbours-le n m r (ends-facts n m r sound) (w .bus) m (omega arith))))
-
   -- j stands in row i exactly if a record joins i and j
   pub neighbours-joined : (i j : ℕ) → has j (neighbours n m r i) ≡ joined m r i j
   unfolding neighbours
@@ -70,3 +53,28 @@ module _ (n m : ℕ) (r : List ℕ) (sound : soundEnds n m r ≡ true) where
       split (ltb j n)
       (λ t. has-listBelow (joined m r i) (ltb-true j n t))
       (λ t. rw (count-listBelow j n (joined m r i), t) (sym (fails (joined m r i j) (λ h. omega (arith, ltb-false j n t, joined-buses i j h .0)))))
+
+-- ---- degrees
+
+module _ (n m : ℕ) (r : List ℕ) where
+  abbrev tooMany : ℕ → Bool
+  tooMany b = ltb maxDegree (length (neighbours n m r b))
+
+  pub degree-le : degreeTooHigh n m r ≡ false → (i : ℕ) → i < n → length (neighbours n m r i) ≤ maxDegree
+  unfolding degreeTooHigh
+  degree-le h i l = ltb-false maxDegree _ (anyBelow-none tooMany n h l)
+
+  pub none-too-high : ((i : ℕ) → i < n → length (neighbours n m r i) ≤ maxDegree) → degreeTooHigh n m r ≡ false
+  unfolding degreeTooHigh
+  none-too-high h = anyBelow-fails tooMany n (λ i l. le-ltb maxDegree _ (h i l))
+
+  pub one-too-high : (i : ℕ) → i < n → maxDegree < length (neighbours n m r i) → degreeTooHigh n m r ≡ true
+  unfolding degreeTooHigh
+  one-too-high i l h = anyBelow-by tooMany n i l (lt-ltb maxDegree _ h)
+
+-- a degree that is too high by the first records is so by all
+pub too-high-grows : (n k m : ℕ) (r : List ℕ) → k ≤ m → degreeTooHigh n k r ≡ true → degreeTooHigh n m r ≡ true
+unfolding degreeTooHigh
+too-high-grows n k m r b h =
+    let w = anyBelow-at (tooMany n k r) n h in
+    one-too-high n m r (w .0) (w .1) (omega (arith, ltb-true maxDegree (length (neighbours n k r (w .0))) (w .2), neighbours-grows n k m r (w .0) b))

@@ -1,16 +1,14 @@
--- What the records of a file say: which buses they name, and which they join. r has the bytes of the records, and m is how many they are.
+-- What the records of a file say: which buses they join, and how many different pairs they name. r has the bytes of the records, and m is how many
+-- they are.
 -- Definitions only.
-use mathlib.Core.Bool.{Bool, _&&_, _||_}
+use mathlib.Core.Bool.{Bool, not, _&&_, _||_}
 use mathlib.Core.List.{List}
 use Prim.Native.Nat.{ℕ}
 use lib.Dec.{ltb, eqb}
+use lib.ListN.{length}
 use Rattle.lists.specs.Below.{anyBelow, countBelow, listBelow}
 use Rattle.table_spec.specs.Limits.{maxDegree}
-use Rattle.file_spec.specs.FileBytes.{firstEnd, secondEnd}
-
--- record k names bus b
-unfoldable pub names : List ℕ → ℕ → ℕ → Bool
-names r b k = eqb (firstEnd r k) b || eqb (secondEnd r k) b
+use Rattle.file_spec.specs.FileBytes.{fileLineCount, records, firstEnd, secondEnd}
 
 -- record k joins i and j, either way round
 unfoldable pub joins : List ℕ → ℕ → ℕ → ℕ → Bool
@@ -24,14 +22,18 @@ joined m r i j = anyBelow m (joins r i j)
 unfoldable pub neighbours : ℕ → ℕ → List ℕ → ℕ → List ℕ
 neighbours n m r i = listBelow n (joined m r i)
 
--- some bus below n stands in more of the first m records than it may have lines
+-- some bus below n has more different neighbours than it may have lines
 unfoldable pub degreeTooHigh : ℕ → ℕ → List ℕ → Bool
-degreeTooHigh n m r = anyBelow n (λ b. ltb maxDegree (countBelow m (names r b)))
+degreeTooHigh n m r = anyBelow n (λ b. ltb maxDegree (length (neighbours n m r b)))
 
 -- record k names the same pair as an earlier one
 unfoldable pub repeats : List ℕ → ℕ → Bool
 repeats r k = joined k r (firstEnd r k) (secondEnd r k)
 
--- one of the first m records does
-unfoldable pub repeated : ℕ → List ℕ → Bool
-repeated m r = anyBelow m (repeats r)
+-- the different pairs of the first m records: how many of them do not name the pair of an earlier one
+unfoldable pub pairCount : ℕ → List ℕ → ℕ
+pairCount m r = countBelow m (λ k. not (repeats r k))
+
+-- the different pairs of a file
+abbrev pub filePairCount : List ℕ → ℕ
+filePairCount f = pairCount (fileLineCount f) (records f)

@@ -14,13 +14,13 @@ use Rattle.network.specs.declared.Counts.{Counts}
 use Rattle.file_spec.specs.FileBytes.{fileBusCount, needBytes, fileLineCount, records}
 use Rattle.file_spec.specs.Sections.{sectionCauses, counts, sectionsOutcome, soundEnds}
 use Rattle.file_spec.specs.SoundSections.{SoundSections, sections-passed, length-needBytes}
-use Rattle.file_spec.specs.Records.{degreeTooHigh, repeated}
+use Rattle.file_spec.specs.Records.{degreeTooHigh}
 use Rattle.read_spec.specs.ReadStages.{RecordsDue}
-use Rattle.read_spec.specs.ReadOutcome.{recordCauses, readCauses, readOutcome, fileTable, storedTable, tableAfter}
+use Rattle.read_spec.specs.ReadOutcome.{recordCauses, readCauses, networkCounts, readOutcome, fileTable, storedTable, tableAfter}
 
 -- what is due of Read, where a slice that held t is lent
 abbrev pub ReadDue : List ℕ → List ℕ → Outcome Counts → List ℕ → Type 0
-ReadDue f t = Due (readCauses f (length t)) (counts f) (storedTable f t) t
+ReadDue f t = Due (readCauses f (length t)) (networkCounts f) (storedTable f t) t
 
 -- where the sections are sound the records decide
 module _ (f : List ℕ) {c : Counts} (e : sectionsOutcome f ≡ gives c) where
@@ -37,7 +37,7 @@ module _ (f : List ℕ) {c : Counts} (e : sectionsOutcome f ≡ gives c) where
       let n = fileBusCount f in
       let d = rw (eq, em, er, length-needBytes sound) at d in
       stage-pass (sectionCauses f) (counts f) (sym e)
-      (subst (λ s. Due (recordCauses n (fileLineCount f) (records f) (length t)) (counts f) s t o t′) (put-front t (fileTable f)) d)
+      (subst (λ s. Due (recordCauses n (fileLineCount f) (records f) (length t)) (networkCounts f) s t o t′) (put-front t (fileTable f)) d)
 
 -- an accepted file has passed every test
 module _ (f t : List ℕ) {c : Counts} (e : readOutcome f (length t) ≡ gives c) where
@@ -51,7 +51,7 @@ module _ (f t : List ℕ) {c : Counts} (e : readOutcome f (length t) ≡ gives c
   r = records f
 
   none : NoneHolds (readCauses f (length t))
-  none = no-cause (readCauses f (length t)) (counts f) e .0
+  none = no-cause (readCauses f (length t)) (networkCounts f) e .0
 
   pub whole : SoundSections f
   whole = sections-passed f (none-both (sectionCauses f) (recordCauses n m r (length t)) none .0)
@@ -62,8 +62,8 @@ module _ (f t : List ℕ) {c : Counts} (e : readOutcome f (length t) ≡ gives c
   pub none-too-high : degreeTooHigh n m r ≡ false
   none-too-high = or-none _ _ (none-numbered 7 (readCauses f (length t)) none) .0
 
-  pub none-repeated : repeated m r ≡ false
-  none-repeated = or-none _ _ (none-numbered 8 (readCauses f (length t)) none) .0
+  pub counts-given : c ≡ networkCounts f
+  counts-given = no-cause (readCauses f (length t)) (networkCounts f) e .1
 
   pub table-stored : tableAfter f t ≡ storedTable f t
   table-stored = rw (none-gives (readCauses f (length t)) (storedTable f t) none)

@@ -7,38 +7,42 @@ use Prim.Native.Nat.{ℕ, _<_}
 use lib.Dec.{ltb}
 use lib.ListN.{length, drop}
 use Rattle.lists.specs.Lists.{has}
-use Rattle.refusals.specs.declared.Refusal.the-variants.{LineEnds, DegreeTooHigh, RepeatedLine, TableTooShort}
+use Rattle.refusals.specs.declared.Refusal.the-variants.{LineEnds, DegreeTooHigh, TableTooShort}
 use Rattle.refusals.specs.Outcomes.{Outcome, gives, refuses, Cause, _⇒_, outcome, valuesOr}
 use Rattle.table_spec.specs.Layout.{busCount, needs, row, lines, tableEntries, tableOf}
 use Rattle.table_spec.specs.Holds.{Holds}
 use Rattle.network.specs.declared.Counts.{Counts}
 use Rattle.file_spec.specs.FileBytes.{fileBusCount, needBytes, fileLineCount, records}
-use Rattle.file_spec.specs.Sections.{sectionCauses, counts, soundEnds}
-use Rattle.file_spec.specs.Records.{joined, neighbours, degreeTooHigh, repeated}
+use Rattle.file_spec.specs.Sections.{sectionCauses, soundEnds}
+use Rattle.file_spec.specs.Records.{joined, neighbours, degreeTooHigh, pairCount, filePairCount}
 
 -- a record names a bus of n or above, or one bus twice
 abbrev pub endsCauses : ℕ → ℕ → List ℕ → List Cause
 endsCauses n m r = (not (soundEnds n m r) ⇒ LineEnds) ∷ []
 
--- a bus stands in too many records; two records name the same pair
+-- a bus has too many different neighbours
 abbrev pub degreeCauses : ℕ → ℕ → List ℕ → List Cause
-degreeCauses n m r = (degreeTooHigh n m r ⇒ DegreeTooHigh) ∷ (repeated m r ⇒ RepeatedLine) ∷ []
+degreeCauses n m r = (degreeTooHigh n m r ⇒ DegreeTooHigh) ∷ []
 
--- too few entries are lent for the table
+-- too few entries are lent for the table of n buses and m lines
 abbrev pub roomCauses : ℕ → ℕ → ℕ → List Cause
 roomCauses n m lent = (ltb lent (tableEntries n m) ⇒ TableTooShort) ∷ []
 
--- each over all records before the next
+-- each over all records before the next; the table has a line for each different pair
 abbrev pub recordCauses : ℕ → ℕ → List ℕ → ℕ → List Cause
-recordCauses n m r lent = endsCauses n m r ++ degreeCauses n m r ++ roomCauses n m lent
+recordCauses n m r lent = endsCauses n m r ++ degreeCauses n m r ++ roomCauses n (pairCount m r) lent
 
 -- Read checks in file order, then the records
 abbrev pub readCauses : List ℕ → ℕ → List Cause
 readCauses f lent = sectionCauses f ++ recordCauses (fileBusCount f) (fileLineCount f) (records f) lent
 
--- n and m, or the number of the first cause
+-- n and m of the file's network: its buses, and its different pairs
+abbrev pub networkCounts : List ℕ → Counts
+networkCounts f = record { buses = fileBusCount f; lines = filePairCount f }
+
+-- these, or the number of the first cause
 abbrev pub readOutcome : List ℕ → ℕ → Outcome Counts
-readOutcome f lent = outcome (readCauses f lent) (counts f)
+readOutcome f lent = outcome (readCauses f lent) (networkCounts f)
 
 -- the file's table: its buses, the needs as recorded, and for each bus the neighbours that the records give it
 unfoldable pub fileTable : List ℕ → List ℕ
@@ -52,15 +56,16 @@ storedTable f t = fileTable f ++ drop (length (fileTable f)) t
 abbrev pub tableAfter : List ℕ → List ℕ → List ℕ
 tableAfter f t = valuesOr t (outcome (readCauses f (length t)) (storedTable f t))
 
--- the slice t holds exactly the buses, needs and lines that the file f records
-pub record AsRecorded (f t : List ℕ) : Type 0 where
+-- the slice t holds exactly the buses, needs and different pairs that the file f records, and c are its counts
+pub record AsRecorded (f : List ℕ) (c : Counts) (t : List ℕ) : Type 0 where
   pub holding : Holds t
   pub buses : busCount t ≡ fileBusCount f
   pub needed : needs t ≡ needBytes f
-  pub lined : lines t ≡ fileLineCount f
+  pub lined : lines t ≡ filePairCount f
   pub joining : (i j : ℕ) → i < fileBusCount f → has j (row t i) ≡ joined (fileLineCount f) (records f) i j
+  pub counted : c ≡ record { buses = busCount t; lines = lines t }
 
 -- so it is where the answer accepts the file; where it refuses, the slice holds what it held
 abbrev pub Recorded : List ℕ → List ℕ → Outcome Counts → List ℕ → Type 0
-Recorded f t (gives c) t′ = AsRecorded f t′
+Recorded f t (gives c) t′ = AsRecorded f c t′
 Recorded f t (refuses number) t′ = t′ ≡ t

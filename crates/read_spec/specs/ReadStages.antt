@@ -8,7 +8,7 @@ use Rattle.refusals.specs.Outcomes.{Outcome, Cause}
 use Rattle.refusals.specs.Due.{Due}
 use Rattle.table_spec.specs.Layout.{tableOf}
 use Rattle.network.specs.declared.Counts.{Counts}
-use Rattle.file_spec.specs.Records.{neighbours}
+use Rattle.file_spec.specs.Records.{neighbours, pairCount}
 use Rattle.read_spec.specs.ReadOutcome.{degreeCauses, roomCauses, recordCauses}
 
 -- buses with the needs q, and m lines that give them these rows: what is answered, and what a slice that held t holds then, where these causes decide
@@ -19,10 +19,11 @@ TableDue cs q m rows t o t′ = Due cs (record { buses = length q; lines = m }) 
 abbrev pub RoomDue : List ℕ → ℕ → (ℕ → List ℕ) → List ℕ → Outcome Counts → List ℕ → Type 0
 RoomDue q m rows t o t′ = TableDue (roomCauses (length q) m (length t)) q m rows t o t′
 
--- the ends of the records r are sound
+-- the ends of m records r are sound
 abbrev pub LinesDue : List ℕ → ℕ → List ℕ → List ℕ → Outcome Counts → List ℕ → Type 0
-LinesDue q m r t o t′ = TableDue (degreeCauses (length q) m r ++ roomCauses (length q) m (length t)) q m (neighbours (length q) m r) t o t′
+LinesDue q m r t o t′ =
+    TableDue (degreeCauses (length q) m r ++ roomCauses (length q) (pairCount m r) (length t)) q (pairCount m r) (neighbours (length q) m r) t o t′
 
--- any records
+-- any m records r
 abbrev pub RecordsDue : List ℕ → ℕ → List ℕ → List ℕ → Outcome Counts → List ℕ → Type 0
-RecordsDue q m r t o t′ = TableDue (recordCauses (length q) m r (length t)) q m (neighbours (length q) m r) t o t′
+RecordsDue q m r t o t′ = TableDue (recordCauses (length q) m r (length t)) q (pairCount m r) (neighbours (length q) m r) t o t′

@@ -1,7 +1,7 @@
 -- What Read stored is what the file records, and what it refused left the slice as it was.
 use mathlib.Core.Bool.{true}
 use mathlib.Core.List.{List, _++_}
-use mathlib.Core.Path.{_≡_, sym, ap, subst, _∙_}
+use mathlib.Core.Path.{_≡_, sym, ap, ap₂, subst, _∙_}
 use Prim.Native.Nat.{ℕ, _+_, _*_}
 use native.Mathlib.Omega.{arith}
 use lib.ListN.{length, drop}
@@ -10,7 +10,7 @@ use Rattle.lists.specs.Below.{joinBelow}
 use Rattle.refusals.specs.Outcomes.{Outcome, gives, refuses, valuesOr}
 use Rattle.refusals.specs.Causes.{part-answered}
 use Rattle.refusals.specs.Due.{both}
-use Rattle.table_spec.specs.Layout.{tableEntries, tableOf}
+use Rattle.table_spec.specs.Layout.{busCount, lines, tableEntries, tableOf}
 use Rattle.table_spec.specs.Holds.{Holds}
 use Rattle.table_spec.specs.TableOutcomes.{SameNetwork}
 use Rattle.table_spec.specs.Facts.{needs-facts}
@@ -18,17 +18,17 @@ use Rattle.table_spec.specs.Laid.{length-tableOf, made-busCount, made-needs, ma
 use Rattle.table_spec.specs.LineCount.{two-for-each}
 use Rattle.network.specs.declared.Counts.{Counts}
 use Rattle.file_spec.specs.FileBytes.{fileBusCount, needBytes, fileLineCount, records}
-use Rattle.file_spec.specs.Sections.{counts, soundEnds}
+use Rattle.file_spec.specs.Sections.{soundEnds}
 use Rattle.file_spec.specs.SoundSections.{length-needBytes, ends-facts}
-use Rattle.file_spec.specs.Records.{neighbours}
+use Rattle.file_spec.specs.Records.{neighbours, pairCount, filePairCount}
 use Rattle.file_spec.specs.RecordPairs.{joined-sym, rows-length}
-use Rattle.file_spec.specs.RecordNeighbours.{neighbours-valid, neighbours-max-le, neighbours-joined}
-use Rattle.read_spec.specs.ReadOutcome.{readCauses, readOutcome, fileTable, storedTable, tableAfter, AsRecorded, Recorded}
-use Rattle.read_spec.specs.ReadDecides.{ReadDue, whole, sound-ends, none-too-high, none-repeated, table-stored}
+use Rattle.file_spec.specs.RecordNeighbours.{neighbours-valid, neighbours-joined, degree-le}
+use Rattle.read_spec.specs.ReadOutcome.{readCauses, networkCounts, readOutcome, fileTable, storedTable, tableAfter, AsRecorded, Recorded}
+use Rattle.read_spec.specs.ReadDecides.{ReadDue, whole, sound-ends, none-too-high, counts-given, table-stored}
 
 -- a refused Read changes nothing
 pub kept : (f t : List ℕ) {k : ℕ} → readOutcome f (length t) ≡ refuses k → tableAfter f t ≡ t
-kept f t e = sym (ap (valuesOr t) (part-answered (λ c. storedTable f t) (readCauses f (length t)) (counts f) (sym e)))
+kept f t e = sym (ap (valuesOr t) (part-answered (λ c. storedTable f t) (readCauses f (length t)) (networkCounts f) (sym e)))
 
 -- the file is accepted
 module _ (f t : List ℕ) {c : Counts} (e : readOutcome f (length t) ≡ gives c) where
@@ -63,27 +63,34 @@ module _ (f t : List ℕ) {c : Counts} (e : readOutcome f (length t) ≡ gives c
   held : Holds (tableOf n q rows ++ rest)
   held =
       made-holds n q rows rest long (whole f t e .first .positive) (whole f t e .first .buses) (needs-facts q (whole f t e .first .needs))
-      (λ i b. neighbours-valid n m r ends i) (neighbours-max-le n m r ends (none-too-high f t e))
+      (λ i b. neighbours-valid n m r ends i) (degree-le n m r (none-too-high f t e))
       (λ i j b c. neighbours-joined n m r ends i j ∙ joined-sym m r i j ∙ sym (neighbours-joined n m r ends j i))
 
-  numbers : length (joinBelow n rows) ≡ 2 * m
-  numbers = rows-length n m r (ends-facts n m r ends) (none-repeated f t e)
+  numbers : length (joinBelow n rows) ≡ 2 * pairCount m r
+  numbers = rows-length n m r (ends-facts n m r ends)
 
   -- the table has as many entries as refusal 10 asks for
-  pub entries : length (fileTable f) ≡ tableEntries n m
+  pub entries : length (fileTable f) ≡ tableEntries n (filePairCount f)
   unfolding fileTable
   entries = omega (arith, length-tableOf n q rows long, numbers)
 
   -- the slice holds exactly what the file records
-  pub recorded : AsRecorded f (tableAfter f t)
+  same-buses : busCount (tableOf n q rows ++ rest) ≡ n
+  same-buses = made-busCount n q rows rest long
+
+  same-lines : lines (tableOf n q rows ++ rest) ≡ filePairCount f
+  same-lines = omega (arith, two-for-each _ held, made-last n q rows rest long, numbers)
+
+  pub recorded : AsRecorded f c (tableAfter f t)
   recorded =
       rw stored
       record {
         holding = held;
-        buses = made-busCount n q rows rest long;
+        buses = same-buses;
         needed = made-needs n q rows rest long;
-        lined = omega (arith, two-for-each _ held, made-last n q rows rest long, numbers);
+        lined = same-lines;
         joining = λ i j b. ap (has j) (made-row n q rows rest long i b) ∙ neighbours-joined n m r ends i j;
+        counted = counts-given f t e ∙ sym (ap₂ (λ (a b : ℕ). record { buses = a; lines = b }) same-buses same-lines);
       }
 
   -- and to every call the file's table, whatever stands behind it
@@ -93,7 +100,7 @@ module _ (f t : List ℕ) {c : Counts} (e : readOutcome f (length t) ≡ gives c
 
 -- what is answered and stored as it is due is so for every file and slice
 all-recorded : (f t : List ℕ) (o : Outcome Counts) {t′ : List ℕ} → o ≡ readOutcome f (length t) → t′ ≡ tableAfter f t → Recorded f t o t′
-all-recorded f t (gives c) e s = subst (AsRecorded f) (sym s) (recorded f t (sym e))
+all-recorded f t (gives c) e s = subst (AsRecorded f c) (sym s) (recorded f t (sym e))
 all-recorded f t (refuses k) e s = s ∙ kept f t (sym e)
 
 pub read-recorded : (f t : List ℕ) {o : Outcome Counts} {t′ : List ℕ} → ReadDue f t o t′ → (o ≡ readOutcome f (length t)) × ((t′ ≡ tableAfter f t) × Recorded f t o t′)

@@ -11,9 +11,8 @@ ghost use Rattle.row_builder.specs.RowsInSlots.{rowInSlots, RowsInSlots};
 ghost use Rattle.file_records.specs.RecordsInSlots.{SoundRecords};
 ghost use Rattle.read_spec.specs.ReadOutcome.{readOutcome, tableAfter, Recorded};
 ghost use Rattle.read_spec.specs.ReadStages.{RoomDue, LinesDue, RecordsDue};
-use file_records::Inserted;
 use file_records::add_records;
-use file_records::degree_too_high;
+use file_sections::Counted;
 pub use file_sections::Counts;
 pub use file_sections::Reading;
 use file_sections::judge;
@@ -67,15 +66,11 @@ fn read_lines(needs: &[u8], section: &[u8], m: usize, table: &mut [u16]) -> Read
     ensures { λ r. ⌜ LinesDue (now (needs .entry)) m (now (section .entry)) (now (table .entry)) (outcomeOfReading r) (now (table .exit)) ⌝ }
 {
     let n = needs.len();
-    if degree_too_high(section, n, m) {
-        return Reading::Refused(Refusal::DegreeTooHigh);
-    }
     let mut slots = zero_slots();
     let mut counts = zero_counts();
     match add_records(section, n, m, &mut slots, &mut counts) {
-        Inserted::Full => Reading::Refused(Refusal::DegreeTooHigh),
-        Inserted::Present => Reading::Refused(Refusal::RepeatedLine),
-        Inserted::Added => store_table(needs, m, &slots, &counts, table),
+        Counted::Refused(cause) => Reading::Refused(cause),
+        Counted::Is(pairs) => store_table(needs, pairs, &slots, &counts, table),
     }
 }
 

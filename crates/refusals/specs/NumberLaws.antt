@@ -1,22 +1,28 @@
 -- Each refusal has a number of its own, above zero.
+use mathlib.Core.Bool.{cond}
 use mathlib.Core.List.{List, [], _∷_}
 use mathlib.Core.Path.{_≡_, refl, sym, ap, _∙_}
-use Prim.Native.Nat.{ℕ, zero, suc, _-_, _<_}
+use Prim.Native.Nat.{ℕ, zero, suc, _<_}
 use native.Mathlib.Omega.{arith}
-use lib.ListN.{getD}
+use lib.Dec.{eqb}
 use Rattle.refusals.specs.declared.Refusal.{Refusal}
-use Rattle.refusals.specs.declared.Refusal.the-variants.{FileTooShort, BusCount, Need, LineCount, FileTooLong, LineEnds, DegreeTooHigh, RepeatedLine, NoDenominator, TableTooShort, NoNetwork, NumeratorsTooShort, NoSuchBus, TextTooShort}
+use Rattle.refusals.specs.declared.Refusal.the-variants.{FileTooShort, BusCount, Need, LineCount, FileTooLong, LineEnds, DegreeTooHigh, NoDenominator, TableTooShort, NoNetwork, NumeratorsTooShort, NoSuchBus, TextTooShort}
 use Rattle.refusals.specs.Numbers.{numberOf}
 
--- the refusals in the order of their numbers
-inOrder : List Refusal
-inOrder = FileTooShort ∷ BusCount ∷ Need ∷ LineCount ∷ FileTooLong ∷ LineEnds ∷ DegreeTooHigh ∷ RepeatedLine ∷ NoDenominator ∷ TableTooShort ∷ NoNetwork ∷ NumeratorsTooShort ∷ NoSuchBus ∷ TextTooShort ∷ []
+-- all refusals
+refusals : List Refusal
+refusals = FileTooShort ∷ BusCount ∷ Need ∷ LineCount ∷ FileTooLong ∷ LineEnds ∷ DegreeTooHigh ∷ NoDenominator ∷ TableTooShort ∷ NoNetwork ∷ NumeratorsTooShort ∷ NoSuchBus ∷ TextTooShort ∷ []
+
+-- the first of number k
+ofNumber : ℕ → List Refusal → Refusal
+ofNumber k [] = TextTooShort
+ofNumber k (r ∷ rs) = cond (eqb (numberOf r) k) r (ofNumber k rs)
 
 named : ℕ → Refusal
-named k = getD inOrder (k - 1) TextTooShort
+named k = ofNumber k refusals
 
 back : (r : Refusal) → named (numberOf r) ≡ r
-unfolding named inOrder
+unfolding named refusals ofNumber
 back FileTooShort = refl
 back BusCount = refl
 back Need = refl
@@ -24,7 +30,6 @@ back LineCount = refl
 back FileTooLong = refl
 back LineEnds = refl
 back DegreeTooHigh = refl
-back RepeatedLine = refl
 back NoDenominator = refl
 back TableTooShort = refl
 back NoNetwork = refl
@@ -38,7 +43,7 @@ number-injective a b e = sym (back a) ∙ ap named e ∙ back b
 
 -- and none has number 0
 pub number-pos : (r : Refusal) → 0 < numberOf r
-unfolding named inOrder
+unfolding named refusals ofNumber
 number-pos r = go (numberOf r) (back r) refl
   where
     go : (k : ℕ) → named k ≡ r → k ≡ numberOf r → 0 < k

@@ -1,8 +1,9 @@
--- The scope's number of each refusal: 1 to 9 because of the input, 10 to 14 because of the state lent.
+-- The scope's number of each refusal: 1 to 9 because of the input, 10 to 14 because of the state lent. No refusal has number 8: a repeated pair had
+-- it, until order 1 of the change requests.
 -- Definitions only.
 use Prim.Native.Nat.{ℕ}
 use Rattle.refusals.specs.declared.Refusal.{Refusal}
-use Rattle.refusals.specs.declared.Refusal.the-variants.{FileTooShort, BusCount, Need, LineCount, FileTooLong, LineEnds, DegreeTooHigh, RepeatedLine, NoDenominator, TableTooShort, NoNetwork, NumeratorsTooShort, NoSuchBus, TextTooShort}
+use Rattle.refusals.specs.declared.Refusal.the-variants.{FileTooShort, BusCount, Need, LineCount, FileTooLong, LineEnds, DegreeTooHigh, NoDenominator, TableTooShort, NoNetwork, NumeratorsTooShort, NoSuchBus, TextTooShort}
 
 abbrev pub numberOf : Refusal → ℕ
 numberOf FileTooShort = 1
@@ -12,7 +13,6 @@ numberOf LineCount = 4
 numberOf FileTooLong = 5
 numberOf LineEnds = 6
 numberOf DegreeTooHigh = 7
-numberOf RepeatedLine = 8
 numberOf NoDenominator = 9
 numberOf TableTooShort = 10
 numberOf NoNetwork = 11

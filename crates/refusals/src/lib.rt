@@ -15,10 +15,8 @@ pub enum Refusal {
     FileTooLong,
     // A record names a bus that the network does not have, or one bus twice.
     LineEnds,
-    // A bus stands in more records than it may have lines.
+    // A bus has more different neighbours than it may have lines.
     DegreeTooHigh,
-    // Two records name the same pair, either way round.
-    RepeatedLine,
     // Cancel is given denominator 0.
     NoDenominator,
     // Too few entries are lent for the line table.
@@ -46,7 +44,6 @@ impl Refusal {
             Refusal::FileTooLong => 5,
             Refusal::LineEnds => 6,
             Refusal::DegreeTooHigh => 7,
-            Refusal::RepeatedLine => 8,
             Refusal::NoDenominator => 9,
             Refusal::TableTooShort => 10,
             Refusal::NoNetwork => 11,

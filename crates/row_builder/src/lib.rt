@@ -33,7 +33,7 @@ pub fn zero_counts() -> [u16; Network::BUSES]
 }
 
 // Adds 1 to the count of a bus.
-pub fn increment(counts: &mut [u16; Network::BUSES], bus: usize)
+fn increment(counts: &mut [u16; Network::BUSES], bus: usize)
     requires { ⌜ (bus < maxBuses) × (at (now counts) bus < 65535) ⌝ }
     ensures { λ _. ⌜ now (counts .exit) ≡ set (now (counts .entry)) bus (at (now (counts .entry)) bus + 1) ⌝ }
 {

@@ -7,7 +7,7 @@ use Rattle.table_spec.specs.Limits.{maxBuses}
 use Rattle.sorted_row.specs.declared.Inserted.the-variants.{Added}
 use Rattle.row_builder.specs.RowsInSlots.{RowsAfter}
 use Rattle.row_builder.specs.SlotLaws.{was-added}
-use Rattle.file_records.proofs.CountingNames.{read-low}
+use Rattle.file_records.proofs.ReadEnds.{read-low}
 use Rattle.file_records.proofs.AddingRecords.{first-stops, then-second}
 use Rattle.file_records.proofs.add_record.Statement.{statement}
 use Rattle.file_records.proofs.add_record.Tie as tie
