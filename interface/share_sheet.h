@@ -30,7 +30,7 @@
     14  too few bytes are lent for the text
 
    No call allocates memory or keeps anything for the next one. share_sheet_whole takes some 30 KB
-   of stack, share_sheet_read some 26, each other call less than 8. Calls may run at the same time,
+   of stack, share_sheet_read some 25, each other call less than 8. Calls may run at the same time,
    as long as none writes what another uses. */
 
 #ifndef SHARE_SHEET_H
