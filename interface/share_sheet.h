@@ -20,8 +20,8 @@
      4  the line count is above the limit
      5  bytes follow the last record
      6  a record names a bus that the network does not have, or one bus twice
-     7  a bus stands in more records than it may have lines
-     8  two records name the same two buses, in either order
+     7  a bus has more different neighbours than the limit
+     8  (no call gives it any more; the number stays free)
      9  the denominator is 0
     10  too few entries are lent for the table
     11  the table lent holds no network
@@ -30,7 +30,7 @@
     14  too few bytes are lent for the text
 
    No call allocates memory or keeps anything for the next one. share_sheet_whole takes some 30 KB
-   of stack, share_sheet_read some 26, each other call less than 8. Calls may run at the same time,
+   of stack, share_sheet_read some 25, each other call less than 8. Calls may run at the same time,
    as long as none writes what another uses. */
 
 #ifndef SHARE_SHEET_H
@@ -44,9 +44,11 @@ extern "C" {
 #endif
 
 /* Reads a network file: stores its line table at the front of `table` and gives the counts of
-   buses and of lines, n and m. The table takes 2n + 2 + 2m entries; later ones are left as they
-   were. Refused with 1 to 8 because of the file, then with 10 if `table` is shorter than that.
-   The counts are judged in file order, and after them all records for 6, all for 7, all for 8. */
+   buses and of lines, n and m. Records of the same two buses, in either order, are parallel
+   circuits and make one line, so m counts different pairs. The table takes 2n + 2 + 2m entries;
+   later ones are left as they were. Refused with 1 to 7 because of the file, then with 10 if
+   `table` is shorter than that. The counts are judged in file order (4 limits the records), and
+   after them all records for 6, then all for 7. */
 uint32_t share_sheet_read(const uint8_t *file, size_t file_len, uint16_t *table, size_t table_len,
                           size_t *buses, size_t *lines);
 

@@ -46,7 +46,7 @@ use std::fmt;
 pub struct Counts {
     /// The number of buses, n. They are numbered from 0 to n - 1.
     pub buses: usize,
-    /// The number of lines.
+    /// The number of lines, m: of different pairs of buses that are joined.
     pub lines: usize,
 }
 
@@ -124,13 +124,14 @@ pub fn limits() -> Limits {
 
 /// Reads a network file: stores its line table at the front of `table`, and gives the counts.
 ///
-/// A network of n buses and m lines takes 2n + 2 + 2m entries; later ones are left as they were.
+/// Records of the same two buses, in either order, are parallel circuits and make one line. A
+/// network of n buses and m lines takes 2n + 2 + 2m entries; later ones are left as they were.
 /// Refused because of the file with [`FileTooShort`](Refusal::FileTooShort),
-/// [`BusCount`](Refusal::BusCount), [`Need`](Refusal::Need), [`LineCount`](Refusal::LineCount) or
-/// [`FileTooLong`](Refusal::FileTooLong), in file order; then, each over all records before the
-/// next, with [`LineEnds`](Refusal::LineEnds), [`DegreeTooHigh`](Refusal::DegreeTooHigh) or
-/// [`RepeatedLine`](Refusal::RepeatedLine); then with [`TableTooShort`](Refusal::TableTooShort). A
-/// refused call leaves the network that `table` held.
+/// [`BusCount`](Refusal::BusCount), [`Need`](Refusal::Need), [`LineCount`](Refusal::LineCount),
+/// which limits the records, or [`FileTooLong`](Refusal::FileTooLong), in file order; then, each
+/// over all records before the next, with [`LineEnds`](Refusal::LineEnds) or
+/// [`DegreeTooHigh`](Refusal::DegreeTooHigh); then with [`TableTooShort`](Refusal::TableTooShort).
+/// A refused call leaves the network that `table` held.
 ///
 /// ```
 /// use share_sheet::{read, Refusal};
@@ -143,6 +144,12 @@ pub fn limits() -> Limits {
 /// assert_eq!(table, [3, 1, 1, 1, 0, 1, 3, 4, 1, 0, 2, 1]);
 ///
 /// assert_eq!(read(&file, &mut table[..11]), Err(Refusal::TableTooShort));
+///
+/// // two circuits between buses 0 and 1, named 0, 1 and 1, 0; bus 2 has no line
+/// let parallel = [3, 0, 1, 1, 1, 2, 0, 0, 0, 1, 0, 1, 0, 0, 0];
+/// let counts = read(&parallel, &mut table)?;
+/// assert_eq!((counts.buses, counts.lines), (3, 1));
+/// assert_eq!(table[..10], [3, 1, 1, 1, 0, 1, 2, 2, 1, 0]);
 /// # Ok::<(), Refusal>(())
 /// ```
 pub fn read(file: &[u8], table: &mut [u16]) -> Result<Counts, Refusal> {

@@ -116,11 +116,15 @@ mod tests {
         let mut wrong_end = PATH;
         wrong_end[13] = 3;
         assert_eq!(read(&wrong_end, &mut table), (6, A, B));
-        let mut repeat = PATH;
-        repeat[13] = 0;
-        assert_eq!(read(&repeat, &mut table), (8, A, B));
         assert_eq!(read(&PATH, &mut table[..11]), (10, A, B));
         assert_eq!(table, TABLE);
+        // the pair of the first record again, turned round
+        let mut repeat = PATH;
+        repeat[13] = 0;
+        assert_eq!(read(&repeat, &mut table[..9]), (10, A, B));
+        assert_eq!(table, TABLE);
+        assert_eq!(read(&repeat, &mut table), (0, 3, 1));
+        assert_eq!(table, [3, 1, 1, 1, 0, 1, 2, 2, 1, 0, 2, 1]);
     }
 
     #[test]

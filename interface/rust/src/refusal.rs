@@ -4,7 +4,8 @@ use std::fmt;
 /// Why a call is refused.
 ///
 /// A call gives the first cause in the order that stands with it. A refused call has changed
-/// nothing that was lent to it.
+/// nothing that was lent to it. No refusal has number 8: it stood for two records of the same two
+/// buses, which [`read`](crate::read) now takes for one line, and it stays free.
 ///
 /// ```
 /// use share_sheet::{read, Refusal};
@@ -30,12 +31,10 @@ pub enum Refusal {
     FileTooLong,
     /// A record names a bus that the network does not have, or one bus twice.
     LineEnds,
-    /// A bus stands in more records than it may have lines.
+    /// A bus has more different neighbours than the limit.
     DegreeTooHigh,
-    /// Two records name the same two buses, in either order.
-    RepeatedLine,
     /// The denominator is 0.
-    NoDenominator,
+    NoDenominator = 9,
     /// Too few entries are lent for the table.
     TableTooShort,
     /// The table lent holds no network.
@@ -71,8 +70,7 @@ impl Refusal {
             Refusal::LineEnds => {
                 "a record names a bus that the network does not have, or one bus twice"
             }
-            Refusal::DegreeTooHigh => "a bus stands in more records than it may have lines",
-            Refusal::RepeatedLine => "two records name the same two buses",
+            Refusal::DegreeTooHigh => "a bus has more different neighbours than the limit",
             Refusal::NoDenominator => "the denominator is 0",
             Refusal::TableTooShort => "too few entries are lent for the table",
             Refusal::NoNetwork => "the table lent holds no network",
@@ -104,7 +102,6 @@ pub(crate) fn accepted(status: u32) -> Result<(), Refusal> {
         5 => Refusal::FileTooLong,
         6 => Refusal::LineEnds,
         7 => Refusal::DegreeTooHigh,
-        8 => Refusal::RepeatedLine,
         9 => Refusal::NoDenominator,
         10 => Refusal::TableTooShort,
         11 => Refusal::NoNetwork,
@@ -124,7 +121,7 @@ mod tests {
     fn every_number_has_a_refusal_and_words_of_its_own() {
         assert_eq!(accepted(0), Ok(()));
         let mut words = HashSet::new();
-        for number in 1..=14 {
+        for number in (1..=14).filter(|&number| number != 8) {
             let refused = accepted(number).unwrap_err();
             assert_eq!(u32::from(refused.number()), number);
             assert!(words.insert(refused.words()), "{refused}");
@@ -136,5 +133,11 @@ mod tests {
     #[should_panic(expected = "returned 15")]
     fn an_unknown_number_is_no_refusal() {
         let _ = accepted(15);
+    }
+
+    #[test]
+    #[should_panic(expected = "returned 8")]
+    fn nor_is_the_number_that_stays_free() {
+        let _ = accepted(8);
     }
 }

@@ -1,4 +1,4 @@
-//! The bench cases of the scope, starred ones included, through the boundary.
+//! The bench cases of the scope, starred ones included, and of order 1, through the boundary.
 
 use share_sheet::{
     cancel, degree, limits, read, row, share, shares, sheet_line, whole_sheet, Counts, Fraction,
@@ -132,11 +132,58 @@ fn short_and_long_files() {
 fn records() {
     refuses(&file(&[1; 3], &[(0, 1), (1, 1)]), 6);
     refuses(&file(&[1; 3], &[(0, 1), (1, 3)]), 6);
-    refuses(&file(&[1; 3], &[(0, 1), (1, 0)]), 8);
     // a repeat early and a wrong end late
     refuses(&file(&[1; 3], &[(0, 1), (1, 0), (1, 3)]), 6);
-    // one line in 24 records
-    refuses(&file(&[1; 3], &[(0, 1); 24]), 7);
+}
+
+/// Records of one pair, in either direction, are one line.
+#[test]
+fn parallel_circuits() {
+    let twice = file(&[1; 3], &[(0, 1), (1, 0)]);
+    let mut lent = [7; 12];
+    assert_eq!(read(&twice, &mut lent[..9]), Err(Refusal::TableTooShort));
+    assert_eq!(lent, [7; 12]);
+    assert_eq!(read(&twice, &mut lent[..10]), Ok(Counts { buses: 3, lines: 1 }));
+    assert_eq!(lent, [3, 1, 1, 1, 0, 1, 2, 2, 1, 0, 7, 7]);
+    scores(&twice, 2, &[2, 2, 2]);
+
+    let path_in_many = [(1, 2), (1, 0), (1, 2), (2, 1), (0, 1), (1, 0), (2, 1)];
+    assert_eq!(table(&file(&[1; 3], &path_in_many)), PATH_TABLE);
+    scores(&file(&[1, 2, 1], &path_in_many), 6, &[4, 10, 4]);
+}
+
+/// 7 counts different neighbours.
+#[test]
+fn parallel_circuits_at_one_bus() {
+    let mut records: Vec<_> = (1..24).map(|leaf| (0, leaf)).collect();
+    records.extend([(0, 23), (1, 0)]);
+    for count in [24, 25] {
+        let star_in_more = file(&[1; 24], &records[..count]);
+        assert_eq!(table(&star_in_more), table(&star(24)));
+    }
+    records.extend((1..24).map(|leaf| (leaf, 0)));
+    assert_eq!(table(&file(&[1; 24], &records)), table(&star(24)));
+    records.push((24, 0));
+    refuses(&file(&[1; 25], &records), 7);
+    records.push((0, 25));
+    refuses(&file(&[1; 25], &records), 6);
+}
+
+/// 4 counts records, 10 different pairs.
+#[test]
+fn parallel_circuits_of_one_pair() {
+    for other in [(0, 1), (1, 0)] {
+        let mut records = vec![(0, 1); 5_888];
+        records[1..].fill(other);
+        let most = file(&[1; 2], &records);
+        let mut lent = [7; 10];
+        assert_eq!(read(&most, &mut lent[..7]), Err(Refusal::TableTooShort));
+        assert_eq!(lent, [7; 10]);
+        assert_eq!(read(&most, &mut lent[..8]), Ok(Counts { buses: 2, lines: 1 }));
+        assert_eq!(lent, [2, 1, 1, 0, 1, 2, 1, 0, 7, 7]);
+        records.push(other);
+        refuses(&file(&[1; 2], &records), 4);
+    }
 }
 
 #[test]

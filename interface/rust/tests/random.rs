@@ -55,6 +55,42 @@ impl Tallies {
     }
 }
 
+/// How many accepted files name a pair again; how many of these have a bus with 23 neighbours in
+/// more records than that, how many as many records as may be, and how many one pair only.
+#[derive(Debug, Default, PartialEq, PartialOrd)]
+struct Repeats {
+    files: usize,
+    full_buses: usize,
+    most_records: usize,
+    one_pair: usize,
+}
+
+impl Repeats {
+    /// Counts an accepted file, whose table is given.
+    fn count(&mut self, file: &[u8], table: &[u16]) {
+        let n = table[0] as usize;
+        let starts = &table[1 + n..];
+        let mut records = vec![0; n];
+        for end in file[4 + n..].chunks_exact(2) {
+            records[u16::from_le_bytes([end[0], end[1]]) as usize] += 1;
+        }
+        let (all, lines) = (records.iter().sum::<usize>() / 2, starts[n] as usize / 2);
+        if all > lines {
+            let is_full = |bus| starts[bus + 1] - starts[bus] == 23 && records[bus] > 23;
+            self.files += 1;
+            self.full_buses += usize::from((0..n).any(is_full));
+            self.most_records += usize::from(all == made::MOST_RECORDS);
+            self.one_pair += usize::from(lines == 1);
+        }
+    }
+
+    fn show(&self) {
+        println!("{self:?}");
+        assert!(self.files >= 5_000 && self.full_buses >= 1_000, "{self:?}");
+        assert!(self.most_records >= 100 && self.one_pair >= 1_000, "{self:?}");
+    }
+}
+
 /// Lends slices that hold the same to the library and to the plain reading, and tests that answer
 /// and contents are the same afterwards, that a refused call changed nothing, and that entries
 /// before and behind the slice are as they were. Gives the answer, and what the slice then holds.
@@ -170,6 +206,7 @@ fn text_lengths(written: Result<usize, u8>, random: &mut Random) -> Vec<usize> {
 fn files() {
     let mut random = Random::new(0x5EED_0F11_E501);
     let mut tallies = Tallies::default();
+    let mut repeats = Repeats::default();
     let mut earlier: Vec<u16> = marks(20);
     for _ in 0..FILES {
         let file = match random.below(20) {
@@ -204,6 +241,7 @@ fn files() {
                 if random.one_in(6) {
                     call_all(&table, &mut random, &mut tallies);
                 }
+                repeats.count(&file, &table);
                 earlier = table;
                 earlier.truncate(entries);
             }
@@ -215,7 +253,8 @@ fn files() {
             }
         }
     }
-    tallies.read.shows("read", &[1, 2, 3, 4, 5, 6, 7, 8, 10]);
+    tallies.read.shows("read", &[1, 2, 3, 4, 5, 6, 7, 10]);
+    repeats.show();
 }
 
 #[test]
@@ -253,8 +292,8 @@ fn a_table_of_one_bus_too_many() {
     let mut tallies = Tallies::default();
     for (n, holds) in [(512, true), (513, false)] {
         let pairs = (0..n / 2).map(|pair| (2 * pair, 2 * pair + 1)).collect();
-        for lines in [vec![], pairs] {
-            let network = Network { needs: vec![1; n.into()], lines };
+        for records in [vec![], pairs] {
+            let network = Network { needs: vec![1; n.into()], records };
             let table = made::table(&network.needs, &network.rows());
             assert_eq!(share_sheet::degree(&table, 0).is_ok(), holds);
             call_all(&table, &mut random, &mut tallies);

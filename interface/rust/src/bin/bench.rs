@@ -100,6 +100,12 @@ impl Network {
         self.file(&self.lines)
     }
 
+    /// The file with each record twice, ascending, so that equal ones stand together.
+    fn doubled(&self) -> Vec<u8> {
+        let twice: Vec<_> = self.lines.iter().flat_map(|&line| [line, line]).collect();
+        self.file(&twice)
+    }
+
     /// The file with its records in any order, and the ends of each swapped or not.
     fn shuffled(&self) -> Vec<u8> {
         let mut state = 0x5EED_u64;
@@ -131,6 +137,7 @@ impl Network {
 fn measure_read(file: &[u8]) -> [f64; 2] {
     let mut tables = [vec![0; limits().entries], vec![0; limits().entries]];
     let [mine, other] = &mut tables;
+    assert!(share_sheet::read(file, mine).is_ok() && plain::read(file, other).is_ok());
     measure(
         || _ = black_box(share_sheet::read(black_box(file), black_box(mine))),
         || _ = black_box(plain::read(black_box(file), black_box(other))),
@@ -186,10 +193,28 @@ fn print_calls(network: &Network) {
         ("whole sheet, one call", measure_whole_sheet(&table)),
         ("whole sheet, a call for each line", measure_sheet_lines(&table)),
     ];
-    for (call, [library, plain]) in calls {
-        let ratio = library / plain;
-        println!("| {} | {call} | {library:.0} | {plain:.0} | {ratio:.2} |", network.name);
+    for (call, times) in calls {
+        print_call(&network.name, call, times);
     }
+}
+
+fn print_call(network: &str, call: &str, [library, plain]: [f64; 2]) {
+    let ratio = library / plain;
+    println!("| {network} | {call} | {library:.0} | {plain:.0} | {ratio:.2} |");
+}
+
+/// Read of files with parallel circuits.
+fn print_repeats() {
+    let most = limits().buses as u16;
+    for network in [Network::sparse(most), Network::dense(most / 2)] {
+        print_call(&network.name, "Read, each record twice", measure_read(&network.doubled()));
+    }
+    let lines = vec![(0, 1)];
+    let network = Network { name: format!("one line, {most} buses"), buses: most, lines };
+    // as many records as the largest file has, which has four bytes for each
+    let records = (limits().file_bytes - network.ascending().len()) / 4 + 1;
+    let call = format!("Read, {records} records of it");
+    print_call(&network.name, &call, measure_read(&network.file(&vec![(0, 1); records])));
 }
 
 fn print_growth(network: impl Fn(u16) -> Network) {
@@ -221,6 +246,7 @@ fn main() {
     for network in [Network::star(24), Network::sparse(most), Network::dense(most)] {
         print_calls(&network);
     }
+    print_repeats();
     println!();
     println!("Growth: nanoseconds for each table entry, a ring (2 lines at each bus).");
     println!();

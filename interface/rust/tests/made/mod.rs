@@ -1,5 +1,8 @@
 //! Networks, files and tables made at random from a seed, sound ones and damaged ones.
 
+/// How many records a file may have.
+pub const MOST_RECORDS: usize = 5888;
+
 /// Random numbers (xorshift with a multiplication), the same for the same seed.
 pub struct Random(u64);
 
@@ -36,14 +39,15 @@ impl Random {
     }
 }
 
-/// The needs of a network, and its lines in the order of their records.
+/// The needs of a network, and its records in their order; several may name one pair.
 pub struct Network {
     pub needs: Vec<u8>,
-    pub lines: Vec<(u16, u16)>,
+    pub records: Vec<(u16, u16)>,
 }
 
 impl Network {
-    /// A sound network. Most are small; some have as many buses and lines as may be.
+    /// A sound network. Most are small; some have as many buses, lines or records as may be. One
+    /// in three names pairs again.
     pub fn random(random: &mut Random) -> Self {
         let n = match random.below(600) {
             0..=399 => 1 + random.below(12),
@@ -52,11 +56,15 @@ impl Network {
             598 => 480 + random.below(33),
             _ => 512,
         };
-        let lines = match random.below(10) {
+        let records = match random.below(10) {
             0 if n > 24 => Self::dense_lines(n, random),
+            1..=3 if n > 23 => Self::star_lines(n, random),
             _ => Self::any_lines(n, random),
         };
-        let mut network = Network { needs: vec![1; n], lines };
+        let mut network = Network { needs: vec![1; n], records };
+        if random.one_in(3) && !network.records.is_empty() {
+            network.repeat(random);
+        }
         let rows = network.rows();
         let kind = random.below(5);
         for (need, row) in network.needs.iter_mut().zip(&rows) {
@@ -72,7 +80,8 @@ impl Network {
         network
     }
 
-    /// Lines between any buses, up to a number at each that is chosen at random.
+    /// Lines between any buses, up to a number at each that is chosen at random. As of all lines
+    /// made here, the lower bus comes first, and no two join the same buses.
     fn any_lines(n: usize, random: &mut Random) -> Vec<(u16, u16)> {
         let most = random.of(&[0, 1, 2, 3, 5, 8, 22, 23, 23]);
         let tries = random.of(&[n / 2, n, 2 * n, n * most, 2 * n * most]);
@@ -99,33 +108,72 @@ impl Network {
             let across = (n & 1 == 0 && bus < n / 2).then_some(n / 2);
             for step in (1..=11).chain(across) {
                 if missing == usize::MAX || !random.one_in(missing) {
-                    lines.push((bus as u16, ((bus + step) % n) as u16));
+                    let other = (bus + step) % n;
+                    lines.push((bus.min(other) as u16, bus.max(other) as u16));
                 }
             }
         }
         lines
     }
 
-    /// Puts the records in ascending or any order, and swaps the ends of none, some or all.
-    fn order(&mut self, random: &mut Random) {
-        self.lines.sort_unstable();
-        if random.one_in(2) {
-            random.shuffle(&mut self.lines);
+    /// One bus with 23 lines, or with 22, and no other lines.
+    fn star_lines(n: usize, random: &mut Random) -> Vec<(u16, u16)> {
+        let mut buses: Vec<_> = (0..n as u16).collect();
+        random.shuffle(&mut buses);
+        let (centre, others) = (buses[0], &buses[1..random.of(&[23, 24, 24])]);
+        others.iter().map(|&other| (centre.min(other), centre.max(other))).collect()
+    }
+
+    /// Names pairs again behind all others: any, those of one bus, one of them, or the only one
+    /// that is left; once or several times, and seldom until there are as many records as may be.
+    fn repeat(&mut self, random: &mut Random) {
+        let (a, b) = random.of(&self.records);
+        let again = match random.below(6) {
+            0 | 1 => self.records.clone(),
+            2 | 3 => self.records_of(a),
+            4 => vec![(a, b)],
+            _ => {
+                self.records = vec![(a, b)];
+                vec![(a, b)]
+            }
+        };
+        let most = MOST_RECORDS - self.records.len();
+        let count = match random.below(100) {
+            0 => most,
+            1..=29 => again.len(),
+            _ => 1 + random.below(30),
+        };
+        for _ in 0..count.min(most) {
+            self.records.push(random.of(&again));
         }
-        let swapped = random.of(&[0, 0, 1, 2]);
-        for line in &mut self.lines {
-            if swapped > 0 && random.one_in(swapped) {
-                *line = (line.1, line.0);
+    }
+
+    /// The records that name a bus.
+    fn records_of(&self, bus: u16) -> Vec<(u16, u16)> {
+        self.records.iter().copied().filter(|&(a, b)| a == bus || b == bus).collect()
+    }
+
+    /// Puts the records in ascending order or in any, or leaves them; and turns none, some or all.
+    fn order(&mut self, random: &mut Random) {
+        match random.below(4) {
+            0 | 1 => self.records.sort_unstable(),
+            2 => random.shuffle(&mut self.records),
+            _ => {}
+        }
+        let turned = random.of(&[0, 0, 1, 2]);
+        for record in &mut self.records {
+            if turned > 0 && random.one_in(turned) {
+                *record = (record.1, record.0);
             }
         }
     }
 
-    /// Puts one fault into needs or records, or drops records.
+    /// Puts one fault into needs or records, drops records, or adds records.
     pub fn damage(&mut self, random: &mut Random) {
         let n = self.needs.len();
         let bus = random.below(n) as u16;
-        let at = random.below(self.lines.len());
-        match random.below(7) {
+        let at = random.below(self.records.len());
+        match random.below(8) {
             0 => self.needs[bus as usize] = random.of(&[0, 25, 26, 255]),
             1 => {
                 let wrong = n as u16 + random.of(&[0, 0, 1, 256]);
@@ -133,35 +181,52 @@ impl Network {
                 self.put(at, (wrong, bus), random);
             }
             2 => self.put(at, (bus, bus), random),
-            3 | 4 => {
-                if let Some(&(a, b)) = self.lines.get(at) {
-                    let repeat = if random.one_in(2) { (a, b) } else { (b, a) };
-                    let place = random.below(self.lines.len() + 1);
-                    self.lines.insert(place, repeat);
+            // a pair again in front, and a bus that is not there behind all
+            3 => {
+                if let Some(&(a, b)) = self.records.get(at) {
+                    self.records.insert(0, (b, a));
+                }
+                self.records.push((bus, n as u16));
+            }
+            // one record so often that there are as many as may be, or one more
+            4 if random.one_in(20) => {
+                if let Some(&record) = self.records.get(at) {
+                    self.records.resize(MOST_RECORDS + random.below(2), record);
                 }
             }
-            // one bus in 24 records, of different lines where there are enough buses
-            5 => {
-                let has = self.lines.iter().filter(|&&(a, b)| a == bus || b == bus).count();
-                for _ in has..24 {
-                    let joined = |other: u16| {
-                        let lines = &self.lines;
-                        lines.contains(&(bus, other)) || lines.contains(&(other, bus))
-                    };
-                    let new = (0..n as u16).find(|&other| other != bus && !joined(other));
-                    let other = new.unwrap_or((bus + 1) % n as u16);
-                    self.lines.push(if random.one_in(2) { (bus, other) } else { (other, bus) });
+            // a bus with 24 neighbours
+            5 => self.join(bus, 24, random),
+            // a bus in 24 records or more, with up to 23 neighbours
+            6 => {
+                self.join(bus, 23, random);
+                let again = self.records_of(bus);
+                for _ in again.len()..24 + random.below(3) {
+                    if let Some(&(a, b)) = again.get(random.below(again.len())) {
+                        self.records.push(if random.one_in(2) { (a, b) } else { (b, a) });
+                    }
                 }
             }
-            _ => self.lines.truncate(at),
+            _ => self.records.truncate(at),
+        }
+    }
+
+    /// Joins a bus to others until it has so many neighbours, or all that there are.
+    fn join(&mut self, bus: u16, neighbours: usize, random: &mut Random) {
+        let own = self.records_of(bus);
+        let joined = |other| own.contains(&(bus, other)) || own.contains(&(other, bus));
+        let (has, new): (Vec<_>, Vec<_>) = (0..self.needs.len() as u16)
+            .filter(|&other| other != bus)
+            .partition(|&other| joined(other));
+        for &other in new.iter().take(neighbours.saturating_sub(has.len())) {
+            self.records.push(if random.one_in(2) { (bus, other) } else { (other, bus) });
         }
     }
 
     /// Puts a record in the place of another, or behind all.
     fn put(&mut self, at: usize, record: (u16, u16), random: &mut Random) {
-        match self.lines.get_mut(at) {
-            Some(line) if random.one_in(2) => *line = record,
-            _ => self.lines.push(record),
+        match self.records.get_mut(at) {
+            Some(old) if random.one_in(2) => *old = record,
+            _ => self.records.push(record),
         }
     }
 
@@ -169,22 +234,25 @@ impl Network {
     pub fn file(&self) -> Vec<u8> {
         let mut file = (self.needs.len() as u16).to_le_bytes().to_vec();
         file.extend(&self.needs);
-        file.extend((self.lines.len() as u16).to_le_bytes());
-        for (a, b) in &self.lines {
+        file.extend((self.records.len() as u16).to_le_bytes());
+        for (a, b) in &self.records {
             file.extend(a.to_le_bytes());
             file.extend(b.to_le_bytes());
         }
         file
     }
 
-    /// The neighbours of each bus, ascending.
+    /// The neighbours of each bus, ascending and each once.
     pub fn rows(&self) -> Vec<Vec<u16>> {
         let mut rows = vec![Vec::new(); self.needs.len()];
-        for &(a, b) in &self.lines {
+        for &(a, b) in &self.records {
             rows[a as usize].push(b);
             rows[b as usize].push(a);
         }
-        rows.iter_mut().for_each(|row| row.sort_unstable());
+        for row in &mut rows {
+            row.sort_unstable();
+            row.dedup();
+        }
         rows
     }
 }

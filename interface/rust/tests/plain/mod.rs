@@ -1,14 +1,15 @@
-//! A second reading of the scope in plain safe Rust, which shares nothing with the library. Tests
-//! compare the library with it, and the benchmark measures against it. Refusals are their numbers.
+//! A second reading of the scope and of order 1 in plain safe Rust, which shares nothing with the
+//! library. Tests compare the library with it, and the benchmark measures against it. Refusals are
+//! their numbers.
 #![allow(dead_code)] // each program that has this module uses a part of it
 
 // The scope's limits. They stand here a second time, so that a wrong limit of the library is seen.
 const MOST_BUSES: usize = 512;
 const MOST_LINES_AT_BUS: usize = 23;
 const MOST_NEED: u16 = 24;
-const MOST_LINES: usize = MOST_BUSES * MOST_LINES_AT_BUS / 2;
+const MOST_RECORDS: usize = MOST_BUSES * MOST_LINES_AT_BUS / 2;
 
-/// Reads a network file into `table`; gives the counts of buses and lines.
+/// Reads a network file into `table`; gives the counts of buses and of different pairs.
 pub fn read(file: &[u8], table: &mut [u16]) -> Result<(usize, usize), u8> {
     let mut rest = file;
     let n = number(&mut rest)? as usize;
@@ -19,16 +20,16 @@ pub fn read(file: &[u8], table: &mut [u16]) -> Result<(usize, usize), u8> {
     if needs.iter().any(|&need| !is_need(need.into())) {
         return Err(3);
     }
-    let m = number(&mut rest)? as usize;
-    if m > MOST_LINES {
+    let count = number(&mut rest)? as usize;
+    if count > MOST_RECORDS {
         return Err(4);
     }
-    let records = bytes(&mut rest, 4 * m)?;
+    let records = bytes(&mut rest, 4 * count)?;
     if !rest.is_empty() {
         return Err(5);
     }
 
-    let mut lines = Vec::with_capacity(m);
+    let mut lines = Vec::with_capacity(count);
     for record in records.chunks_exact(4) {
         let a = u16::from_le_bytes([record[0], record[1]]);
         let b = u16::from_le_bytes([record[2], record[3]]);
@@ -42,16 +43,16 @@ pub fn read(file: &[u8], table: &mut [u16]) -> Result<(usize, usize), u8> {
         rows[a as usize].push(b);
         rows[b as usize].push(a);
     }
+    // parallel circuits: a pair that is named again, in either direction, counts once
+    for row in &mut rows {
+        row.sort_unstable();
+        row.dedup();
+    }
     if rows.iter().any(|row| row.len() > MOST_LINES_AT_BUS) {
         return Err(7);
     }
-    for row in &mut rows {
-        row.sort_unstable();
-        if row.windows(2).any(|pair| pair[0] == pair[1]) {
-            return Err(8);
-        }
-    }
 
+    let m = rows.iter().map(Vec::len).sum::<usize>() / 2;
     if table.len() < 2 * n + 2 + 2 * m {
         return Err(10);
     }
