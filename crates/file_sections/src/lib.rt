@@ -109,7 +109,7 @@ pub fn line_count(file: &[u8], n: usize) -> Counted
     Counted::Is(m)
 }
 
-// Where the records of a file of n buses and m lines end, if they are complete.
+// Where the m records of a file of n buses end, if they are complete.
 pub fn records_end(file: &[u8], n: usize, m: usize) -> Counted
     requires { ⌜ (n ≡ fileBusCount (now file)) × (n ≤ maxBuses) × (m ≡ fileLineCount (now file)) × (m ≤ maxLines) ⌝ }
     ensures { λ r. ⌜ outcomeOfCount r ≡ outcome (missingCauses (now (file .entry))) (fileEnd (now (file .entry))) ⌝ }
@@ -121,7 +121,7 @@ pub fn records_end(file: &[u8], n: usize, m: usize) -> Counted
     Counted::Is(end)
 }
 
-// Judges where a file of n buses and m lines ends.
+// Judges where a file of n buses and m records ends.
 fn judge_end(file: &[u8], n: usize, m: usize) -> Reading
     requires { ⌜ (n ≡ fileBusCount (now file)) × (n ≤ maxBuses) × (m ≡ fileLineCount (now file)) × (m ≤ maxLines) ⌝ }
     ensures { λ r. ⌜ outcomeOfReading r ≡ outcome (missingCauses (now (file .entry)) ++ endCauses (now (file .entry))) (counts (now (file .entry))) ⌝ }
@@ -148,7 +148,7 @@ fn judge_lines(file: &[u8], n: usize) -> Reading
     }
 }
 
-// Judges all of a file but what its records say.
+// Judges all of a file but what its records say. Gives its two counts; that of lines is how many records there are.
 pub fn judge(file: &[u8]) -> Reading
     ensures { λ r. ⌜ outcomeOfReading r ≡ sectionsOutcome (now (file .entry)) ⌝ }
 {

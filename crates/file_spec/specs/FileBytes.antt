@@ -19,11 +19,11 @@ needsEnd f = 2 + fileBusCount f
 unfoldable pub needBytes : List ℕ → List ℕ
 needBytes f = part 2 (needsEnd f) f
 
--- m, the line count
+-- the line count: how many records there are
 abbrev pub fileLineCount : List ℕ → ℕ
 fileLineCount f = wordAt f (needsEnd f)
 
--- m records of four bytes
+-- so many records of four bytes
 abbrev pub recordsAt : List ℕ → ℕ
 recordsAt f = needsEnd f + 2
 

@@ -49,7 +49,7 @@ lineSectionCauses f = lineCountCauses f ++ missingCauses f ++ endCauses f
 abbrev pub sectionCauses : List ℕ → List Cause
 sectionCauses f = busSectionCauses f ++ lineSectionCauses f
 
--- n and m
+-- n, and how many records there are
 abbrev pub counts : List ℕ → Counts
 counts f = record { buses = fileBusCount f; lines = fileLineCount f }
 

@@ -57,7 +57,7 @@ impl Tallies {
 
 /// How many accepted files name a pair again; how many of these have a bus with 23 neighbours in
 /// more records than that, how many as many records as may be, and how many one pair only.
-#[derive(Debug, Default, PartialEq, PartialOrd)]
+#[derive(Debug, Default)]
 struct Repeats {
     files: usize,
     full_buses: usize,
