@@ -28,7 +28,7 @@ module _ (f : List ℕ) (lent : ℕ) where
   by-sections (gives c) s e = (
     sound f s,
     ltb-true lent (tableEntries (fileBusCount f) (filePairCount f))
-        (sym (or-false _) ∙ (refused-numbered 10 rest (networkCounts f) (sym (then-decides rest (counts f) (networkCounts f) (sectionCauses f) s) ∙ e))),
+        (sym (or-false _) ∙ refused-numbered 10 rest (networkCounts f) (sym (then-decides rest (counts f) (networkCounts f) (sectionCauses f) s) ∙ e)),
   )
   by-sections (refuses k) s e =
       absurd (true≢false (sym (refused-numbered 10 (sectionCauses f) (counts f) (s ∙ sym (first-refuses rest (counts f) (networkCounts f) (sectionCauses f) s) ∙ e))))
