@@ -1,5 +1,5 @@
 -- The rows, a record at a time.
-use mathlib.Core.Bool.{true, false, cond, not, _&&_, _||_, or-assoc, and-comm, true≢false}
+use mathlib.Core.Bool.{true, false, cond, _&&_, _||_, or-assoc, and-comm, true≢false}
 use mathlib.Core.List.{List}
 use mathlib.Core.Path.{_≡_, sym, ap, ap₂, _∙_}
 use Prim.Native.Nat.{ℕ, _+_, _<_}
@@ -7,10 +7,9 @@ use native.Mathlib.Omega.{arith}
 use borrow.Author.Tests.{ne-eqb}
 use lib.Dec.{eqb}
 use lib.ListN.{length}
-use Rattle.lists.specs.Lists.{indicator, has}
+use Rattle.lists.specs.Lists.{has}
 use Rattle.lists.specs.Below.{anyBelow}
 use Rattle.lists.specs.Tests.{never-both, eqb-self}
-use Rattle.lists.specs.Loops.{sumBelow-next}
 use Rattle.lists.specs.ListBelow.{listBelow-same, listBelow-none, has-listBelow}
 use Rattle.table_spec.specs.Limits.{maxBuses}
 use Rattle.sorted_row.specs.declared.Inserted.{Inserted}
@@ -21,9 +20,9 @@ use Rattle.row_builder.specs.RowsInSlots.{maxSlots, rowInSlots, AllZero, RowsAf
 use Rattle.row_builder.specs.SlotLaws.{slots-length, slots-zero, rows-zero}
 use Rattle.file_spec.specs.FileBytes.{firstEnd, secondEnd}
 use Rattle.file_spec.specs.SoundSections.{TwoBuses}
-use Rattle.file_spec.specs.Records.{joins, joined, neighbours, degreeTooHigh, repeats, pairCount}
+use Rattle.file_spec.specs.Records.{joins, joined, neighbours, degreeTooHigh, repeats}
 use Rattle.file_spec.specs.RecordPairs.{joined-sym, joined-next, joined-again}
-use Rattle.file_spec.specs.RecordNeighbours.{none-too-high, one-too-high}
+use Rattle.file_spec.specs.RecordNeighbours.{too-high-none, too-high-one}
 use Rattle.file_records.specs.RecordsInSlots.{SoundRecords, NeighboursInSlots, RecordAfter}
 use Rattle.file_records.proofs.ReadEnds.{read-ends, read-low}
 
@@ -78,7 +77,7 @@ module _ {n m k : ℕ} {r : List ℕ} (g : SoundRecords n m r) (b : k < m) {x y 
     first-stops Added s c z o = absurd (true≢false z)
     first-stops Present s c z o = let h = sym seen ∙ o .0 in (h, rw (o .1, o .2) (again h))
     first-stops Full s c z o =
-        one-too-high n (k + 1) r x (two .0)
+        too-high-one n (k + 1) r x (two .0)
         (omega (arith, ap length first-row, insert-length y (neighbours n k r x) (sym (ap (has y) first-in-slots) ∙ o .0), ap length first-in-slots, o .1))
 
     -- it was, and then x was to be added to row y
@@ -102,21 +101,12 @@ module _ {n m k : ℕ} {r : List ℕ} (g : SoundRecords n m r) (b : k < m) {x y 
           (sym seen ∙ o .0, record { rows = p .2 .rows; each = λ i l. p .2 .each i l ∙ ap (λ z. cond (eqb y i) (insert x z) z) (one i l) ∙ row-next i })
       then-second Present s′ c′ p = absurd (never-both (p .0) absent)
       then-second Full s′ c′ p =
-          one-too-high n (k + 1) r y (two .1)
+          too-high-one n (k + 1) r y (two .1)
           (omega (arith, ap length second-row, insert-length x (neighbours n k r y) (sym (ap (has x) second-in-slots) ∙ absent), ap length second-in-slots, p .1))
-
--- how many different pairs there are after record k
-pub one-more : (r : List ℕ) (k : ℕ) {pairs : ℕ} → repeats r k ≡ false → pairs ≡ pairCount k r → pairs + 1 ≡ pairCount (k + 1) r
-unfolding pairCount
-one-more r k h e = omega (arith, e, sumBelow-next k (λ i. indicator (not (repeats r i))), ap (λ b. indicator (not b)) h)
-
-pub as-many : (r : List ℕ) (k : ℕ) {pairs : ℕ} → repeats r k ≡ true → pairs ≡ pairCount k r → pairs ≡ pairCount (k + 1) r
-unfolding pairCount
-as-many r k h e = omega (arith, e, sumBelow-next k (λ i. indicator (not (repeats r i))), ap (λ b. indicator (not b)) h)
 
 -- all records were added: no bus has more neighbours than slots
 pub all-fit : {n m : ℕ} {r slots counts : List ℕ} → SoundRecords n m r → NeighboursInSlots n m r slots counts → degreeTooHigh n m r ≡ false
 all-fit {n} {m} {r} {slots} {counts} g w =
-    none-too-high n m r (λ i l.
+    too-high-none n m r (λ i l.
     let b : i < maxBuses = omega (arith, g .buses) in
     omega (arith, ap length (w .each i b), slots-length (w .rows) b, w .rows .bounded i b))

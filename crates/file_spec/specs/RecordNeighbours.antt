@@ -60,21 +60,21 @@ module _ (n m : ℕ) (r : List ℕ) where
   abbrev tooMany : ℕ → Bool
   tooMany b = ltb maxDegree (length (neighbours n m r b))
 
-  pub none-too-high : ((i : ℕ) → i < n → length (neighbours n m r i) ≤ maxDegree) → degreeTooHigh n m r ≡ false
+  pub too-high-none : ((i : ℕ) → i < n → length (neighbours n m r i) ≤ maxDegree) → degreeTooHigh n m r ≡ false
   unfolding degreeTooHigh
-  none-too-high h = anyBelow-fails tooMany n (λ i l. le-ltb maxDegree _ (h i l))
+  too-high-none h = anyBelow-fails tooMany n (λ i l. le-ltb maxDegree _ (h i l))
 
-  pub one-too-high : (i : ℕ) → i < n → maxDegree < length (neighbours n m r i) → degreeTooHigh n m r ≡ true
+  pub too-high-one : (i : ℕ) → i < n → maxDegree < length (neighbours n m r i) → degreeTooHigh n m r ≡ true
   unfolding degreeTooHigh
-  one-too-high i l h = anyBelow-by tooMany n i l (lt-ltb maxDegree _ h)
+  too-high-one i l h = anyBelow-by tooMany n i l (lt-ltb maxDegree _ h)
 
-  pub degree-le : degreeTooHigh n m r ≡ false → (i : ℕ) → i < n → length (neighbours n m r i) ≤ maxDegree
+  pub neighbours-max-le : degreeTooHigh n m r ≡ false → (i : ℕ) → i < n → length (neighbours n m r i) ≤ maxDegree
   unfolding degreeTooHigh
-  degree-le h i l = ltb-false maxDegree _ (anyBelow-none tooMany n h l)
+  neighbours-max-le h i l = ltb-false maxDegree _ (anyBelow-none tooMany n h l)
 
 -- a degree that is too high by the first records is so by all
 pub too-high-grows : (n k m : ℕ) (r : List ℕ) → k ≤ m → degreeTooHigh n k r ≡ true → degreeTooHigh n m r ≡ true
 unfolding degreeTooHigh
 too-high-grows n k m r b h =
     let w = anyBelow-at (tooMany n k r) n h in
-    one-too-high n m r (w .0) (w .1) (omega (arith, ltb-true maxDegree (length (neighbours n k r (w .0))) (w .2), neighbours-grows n k m r (w .0) b))
+    too-high-one n m r (w .0) (w .1) (omega (arith, ltb-true maxDegree (length (neighbours n k r (w .0))) (w .2), neighbours-grows n k m r (w .0) b))

@@ -12,7 +12,7 @@ use Rattle.lists.specs.Lists.{indicator}
 use Rattle.lists.specs.Below.{anyBelow, sumBelow, countBelow, joinBelow}
 use Rattle.lists.specs.Tests.{split, and-left, and-right, or-cases}
 use Rattle.lists.specs.Sums.{indicator-grows, indicator-or}
-use Rattle.lists.specs.Loops.{anyBelow-at, anyBelow-by, anyBelow-next}
+use Rattle.lists.specs.Loops.{anyBelow-at, anyBelow-by, anyBelow-next, sumBelow-next}
 use Rattle.lists.specs.SumsBelow.{sumBelow-same, sumBelow-add, sumBelow-le, sumBelow-const, countBelow-le, countBelow-one}
 use Rattle.lists.specs.JoinBelow.{length-joinBelow}
 use Rattle.lists.specs.ListBelow.{length-listBelow}
@@ -62,6 +62,11 @@ pub pairCount-le : (m : ℕ) (r : List ℕ) → pairCount m r ≤ m
 unfolding pairCount
 pairCount-le m r = countBelow-le (λ k. not (repeats r k)) m
 
+-- record k names one more, unless it repeats a pair
+pub pairCount-next : (k : ℕ) (r : List ℕ) → pairCount (k + 1) r ≡ pairCount k r + indicator (not (repeats r k))
+unfolding pairCount
+pairCount-next k r = sumBelow-next k (λ i. indicator (not (repeats r i)))
+
 -- where one number below n passes q, one passes p and q if p holds
 count-and : (p : Bool) (q : ℕ → Bool) (n : ℕ) → countBelow n q ≡ 1 → countBelow n (λ j. p && q j) ≡ indicator p
 count-and true q n e = e
@@ -87,14 +92,14 @@ module _ (a b : ℕ) (apart : a ≡ b → ⊥) (n : ℕ) (la : a < n) (lb : b < 
 
 -- m records whose ends are two different buses below n
 module _ (n m : ℕ) (r : List ℕ) (ends : SoundEnds n m r) where
-  -- the neighbours of all buses, of the first k records
-  all : ℕ → ℕ
-  all k = sumBelow n (λ i. countBelow n (joined k r i))
+  -- how many numbers all rows have, of the first k records
+  numbers : ℕ → ℕ
+  numbers k = sumBelow n (λ i. countBelow n (joined k r i))
 
   -- record k adds two, or none if it repeats a pair
-  all-next : (k : ℕ) → k < m → sumBelow n (λ i. countBelow n (λ j. joined k r i j || joins r i j k)) ≡ all k + 2 * indicator (not (repeats r k))
-  unfolding joins all
-  all-next k l =
+  numbers-next : (k : ℕ) → k < m → sumBelow n (λ i. countBelow n (λ j. joined k r i j || joins r i j k)) ≡ numbers k + 2 * indicator (not (repeats r k))
+  unfolding joins numbers
+  numbers-next k l =
       let e = ends k l in
       split (repeats r k)
       (λ h. rw h (sumBelow-same _ _ n (λ i b. sumBelow-same _ _ n (λ j c. ap indicator (joined-again k r i j h))) ∙ omega arith))
@@ -103,15 +108,15 @@ module _ (n m : ℕ) (r : List ℕ) (ends : SoundEnds n m r) where
       (λ i b. sumBelow-same _ _ n (λ j c. indicator-or (joined k r i j) (joins r i j k) (λ t. joins-own r i j k t ∙ h))
       ∙ sumBelow-add (λ j. indicator (joined k r i j)) (λ j. indicator (joins r i j k)) n)
       ∙ sumBelow-add (λ i. countBelow n (joined k r i)) (λ i. countBelow n (λ j. joins r i j k)) n
-      ∙ ap (λ s. all k + s) (joined-twice (firstEnd r k) (secondEnd r k) (e .2) n (e .0) (e .1))))
+      ∙ ap (λ s. numbers k + s) (joined-twice (firstEnd r k) (secondEnd r k) (e .2) n (e .0) (e .1))))
 
-  all-pairs : (k : ℕ) → k ≤ m → all k ≡ 2 * pairCount k r
-  unfolding all joined anyBelow sumBelow pairCount
-  all-pairs zero l = sumBelow-same _ (λ i. 0) n (λ i b. sumBelow-const 0 n ∙ omega arith) ∙ sumBelow-const 0 n ∙ omega arith
-  all-pairs (suc k) l = omega (arith, all-next k l, all-pairs k (omega arith))
+  numbers-pairs : (k : ℕ) → k ≤ m → numbers k ≡ 2 * pairCount k r
+  unfolding numbers joined anyBelow sumBelow pairCount
+  numbers-pairs zero l = sumBelow-same _ (λ i. 0) n (λ i b. sumBelow-const 0 n ∙ omega arith) ∙ sumBelow-const 0 n ∙ omega arith
+  numbers-pairs (suc k) l = omega (arith, numbers-next k l, numbers-pairs k (omega arith))
 
   -- so that the rows have two numbers for each different pair
   pub rows-length : length (joinBelow n (neighbours n m r)) ≡ 2 * pairCount m r
-  unfolding neighbours all
+  unfolding neighbours numbers
   rows-length =
-      length-joinBelow n (neighbours n m r) ∙ sumBelow-same _ _ n (λ i l. length-listBelow n (joined m r i)) ∙ all-pairs m (omega arith)
+      length-joinBelow n (neighbours n m r) ∙ sumBelow-same _ _ n (λ i l. length-listBelow n (joined m r i)) ∙ numbers-pairs m (omega arith)

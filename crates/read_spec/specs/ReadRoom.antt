@@ -1,10 +1,11 @@
 -- The entries of the largest table are enough for every file.
-use mathlib.Core.Bool.{true≢false, or-false}
+use mathlib.Core.Bool.{true, false, _||_, true≢false, or-false}
 use mathlib.Core.List.{List}
 use mathlib.Core.Path.{_≡_, refl, sym, _∙_}
 use Prim.Native.Nat.{ℕ, _≤_, _<_}
 use native.Mathlib.Omega.{arith}
 use borrow.Author.Tests.{ltb-true}
+use lib.Dec.{ltb}
 use Rattle.refusals.specs.Outcomes.{Outcome, gives, refuses, Cause}
 use Rattle.refusals.specs.Causes.{refused-numbered, first-refuses, then-decides}
 use Rattle.table_spec.specs.Limits.{maxEntries}
@@ -25,11 +26,11 @@ module _ (f : List ℕ) (lent : ℕ) where
   -- a file that is refused with 10 has sound sections, and its table would have more entries than are lent
   by-sections : (o : Outcome Counts) → sectionsOutcome f ≡ o → readOutcome f lent ≡ refuses 10
       → SoundSections f × (lent < tableEntries (fileBusCount f) (filePairCount f))
-  by-sections (gives c) s e = (
-    sound f s,
-    ltb-true lent (tableEntries (fileBusCount f) (filePairCount f))
-        (sym (or-false _) ∙ refused-numbered 10 rest (networkCounts f) (sym (then-decides rest (counts f) (networkCounts f) (sectionCauses f) s) ∙ e)),
-  )
+  by-sections (gives c) s e =
+      let entries = tableEntries (fileBusCount f) (filePairCount f) in
+      let short : (ltb lent entries || false) ≡ true =
+      refused-numbered 10 rest (networkCounts f) (sym (then-decides rest (counts f) (networkCounts f) (sectionCauses f) s) ∙ e) in
+      (sound f s, ltb-true lent entries (sym (or-false (ltb lent entries)) ∙ short))
   by-sections (refuses k) s e =
       absurd (true≢false (sym (refused-numbered 10 (sectionCauses f) (counts f) (s ∙ sym (first-refuses rest (counts f) (networkCounts f) (sectionCauses f) s) ∙ e))))
 

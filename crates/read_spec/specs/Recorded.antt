@@ -22,7 +22,7 @@ use Rattle.file_spec.specs.Sections.{soundEnds}
 use Rattle.file_spec.specs.SoundSections.{length-needBytes, ends-facts}
 use Rattle.file_spec.specs.Records.{neighbours, pairCount, filePairCount}
 use Rattle.file_spec.specs.RecordPairs.{joined-sym, rows-length}
-use Rattle.file_spec.specs.RecordNeighbours.{neighbours-valid, neighbours-joined, degree-le}
+use Rattle.file_spec.specs.RecordNeighbours.{neighbours-valid, neighbours-max-le, neighbours-joined}
 use Rattle.read_spec.specs.ReadOutcome.{readCauses, networkCounts, readOutcome, fileTable, storedTable, tableAfter, AsRecorded, Recorded}
 use Rattle.read_spec.specs.ReadDecides.{ReadDue, whole, sound-ends, none-too-high, counts-given, table-stored}
 
@@ -63,7 +63,7 @@ module _ (f t : List ℕ) {c : Counts} (e : readOutcome f (length t) ≡ gives c
   held : Holds (tableOf n q rows ++ rest)
   held =
       made-holds n q rows rest long (whole f t e .first .positive) (whole f t e .first .buses) (needs-facts q (whole f t e .first .needs))
-      (λ i b. neighbours-valid n m r ends i) (degree-le n m r (none-too-high f t e))
+      (λ i b. neighbours-valid n m r ends i) (neighbours-max-le n m r (none-too-high f t e))
       (λ i j b c. neighbours-joined n m r ends i j ∙ joined-sym m r i j ∙ sym (neighbours-joined n m r ends j i))
 
   numbers : length (joinBelow n rows) ≡ 2 * pairCount m r

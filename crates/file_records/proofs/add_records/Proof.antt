@@ -2,18 +2,20 @@
 use borrow.Author.Needs.{needs}
 use native.Mathlib.Omega.{arith}
 use mathlib.Core.Logic.{⊎-elim}
-use mathlib.Core.Path.{_≡_, refl, subst, _∙_}
+use mathlib.Core.Bool.{not}
+use mathlib.Core.Path.{_≡_, refl, ap, subst}
 use Prim.Native.Nat.{_+_, _-_, _≤_}
+use Rattle.lists.specs.Lists.{indicator}
 use Rattle.lists.specs.Loops.{by-end}
 use Rattle.sorted_row.specs.declared.Inserted.{Inserted}
 use Rattle.sorted_row.specs.declared.Inserted.the-variants.{Added, Present, Full}
 use Rattle.lists.specs.Below.{sumBelow}
 use Rattle.file_spec.specs.Records.{pairCount}
-use Rattle.file_spec.specs.RecordPairs.{pairCount-le}
+use Rattle.file_spec.specs.RecordPairs.{pairCount-le, pairCount-next}
 use Rattle.file_spec.specs.RecordNeighbours.{too-high-grows}
 use Rattle.file_records.specs.RecordsInSlots.{NeighboursInSlots, RecordAfter}
 use Rattle.file_records.proofs.ReadEnds.{first-records}
-use Rattle.file_records.proofs.AddingRecords.{in-slots-none, one-more, as-many, all-fit}
+use Rattle.file_records.proofs.AddingRecords.{in-slots-none, all-fit}
 use Rattle.file_records.proofs.add_records.Statement.{statement}
 use Rattle.file_records.proofs.add_records.Tie as tie
 
@@ -64,9 +66,10 @@ loop-again : tie.Need-loop-again Inv-loop μ-loop
 loop-again c =
     let p = c .before .before .before in
     let v = loop-place p .loop .inv in
+    let next = pairCount-next (loop-place p .loop .k) (start p .args .section .now) in
     ⊎-elim
-    (λ w. let j = answered p Added (w .1 .given .1) in (in-reach p, w .2 ∙ one-more _ _ (j .0) (v .1), j .1))
-    (λ w. let j = answered p Present (w .1 .given .1) in (in-reach p, w .2 ∙ as-many _ _ (j .0) (v .1), j .1))
+    (λ w. let j = answered p Added (w .1 .given .1) in (in-reach p, omega (arith, w .2, v .1, next, ap (λ b. indicator (not b)) (j .0)), j .1))
+    (λ w. let j = answered p Present (w .1 .given .1) in (in-reach p, omega (arith, w .2, v .1, next, ap (λ b. indicator (not b)) (j .0)), j .1))
     (c .match .came)
 
 returns-2 : tie.Need-returns-2 Inv-loop μ-loop
