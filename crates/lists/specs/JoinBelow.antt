@@ -2,17 +2,17 @@
 use mathlib.Core.List.{List, [], _∷_, _++_, map, map-append, append-assoc, append-nil}
 use mathlib.Core.Logic.{⊎-elim}
 use mathlib.Core.Path.{_≡_, refl, sym, ap, ap₂, subst, _∙_}
-use Prim.Native.Nat.{ℕ, zero, suc, _≤_, _<_}
+use Prim.Native.Nat.{ℕ, zero, suc, _+_, _≤_, _<_}
 use native.Mathlib.Nat.{not-suc-le-zero, mul-one}
 use native.Mathlib.Omega.{arith}
-use lib.ListN.{length, take, drop, List·getD-append}
-use lib.Seq.{getD-at, take-at, drop-at, ext-getD}
+use lib.ListN.{length, take, drop, length-drop, take-append-drop, List·getD-append}
+use lib.Seq.{getD-at, take-at, drop-at, length-take-le, ext-getD}
 use Rattle.lists.specs.Lists.{_∈_, at}
 use Rattle.lists.specs.Below.{sumBelow, joinBelow, mapBelow, range}
 use Rattle.lists.specs.Sums.{sumBy-ones}
-use Rattle.lists.specs.Places.{in-at, at-in}
+use Rattle.lists.specs.Places.{at-take, at-drop, in-at, at-in}
 use Rattle.lists.specs.Loops.{last-or}
-use Rattle.lists.specs.SumsBelow.{sumBy-joinBelow, sumBelow-same, sumBelow-grows, sumBelow-const}
+use Rattle.lists.specs.SumsBelow.{sumBy-joinBelow, sumBelow-same, sumBelow-grows, sumBelow-next-le, sumBelow-const}
 
 pub length-joinBelow : (n : ℕ) (f : ℕ → List ℕ) → length (joinBelow n f) ≡ sumBelow n (λ i. length (f i))
 length-joinBelow n f =
@@ -54,6 +54,20 @@ joinBelow-at f (suc n) rest {i} h =
     ∙ ⊎-elim
     (λ e. rw e (ap (take (length (f n))) (drop-at (joinBelow n f) (f n ++ rest) (length (joinBelow n f)) refl) ∙ take-at (f n) rest (length (f n)) refl))
     (λ l. joinBelow-at f n (f n ++ rest) l) (last-or h)
+
+-- and a list in which each of them stands there, entry by entry, and nothing else, is the lists joined
+pub joinBelow-by : (sizes : ℕ → ℕ) (f : ℕ → List ℕ) (n : ℕ) {l : List ℕ} → ((i : ℕ) → i < n → length (f i) ≡ sizes i) → length l ≡ sumBelow n sizes
+    → ((i j : ℕ) → i < n → j < length (f i) → at l (sumBelow i sizes + j) ≡ at (f i) j) → l ≡ joinBelow n f
+unfolding at joinBelow sumBelow
+joinBelow-by sizes f zero {l} e s h = ext-getD 0 l [] s (λ j b. absurd (omega arith))
+joinBelow-by sizes f (suc n) {l} e s h =
+    let k = sumBelow n sizes in
+    sym (take-append-drop k l)
+    ∙ ap₂ _++_
+    (joinBelow-by sizes f n {l = take k l} (λ i b. e i (omega arith)) (length-take-le k l (omega arith))
+    (λ i j b c. at-take k l _ (omega (arith, e i (omega arith), sumBelow-next-le sizes n b)) ∙ h i j (omega arith) c))
+    (ext-getD 0 (drop k l) (f n) (length-drop k l ∙ omega (arith, e n (omega arith)))
+    (λ j b. at-drop k l j ∙ h n j (omega arith) (omega (arith, length-drop k l, e n (omega arith)))))
 
 pub mapBelow-at : (f : ℕ → ℕ) (n : ℕ) {i : ℕ} → i < n → at (mapBelow n f) i ≡ f i
 unfolding at mapBelow joinBelow

@@ -14,7 +14,7 @@ use Rattle.lists.specs.Below.{sumBelow, countBelow, largestBelow, joinBe
 use Rattle.lists.specs.Tests.{split}
 use Rattle.lists.specs.Sums.{indicator-le, sumBy-append, sumBy-add, sumBy-ones}
 use Rattle.lists.specs.Counts.{count-append, sumBy-cong-in, sumBy-single, sumBy-part}
-use Rattle.lists.specs.Loops.{last-or}
+use Rattle.lists.specs.Loops.{last-or, sumBelow-next}
 
 -- ---- sums
 
@@ -66,6 +66,10 @@ unfolding sumBelow
 sumBelow-grows f {i} zero h = let e : i ≡ 0 = omega arith in rw e (le-refl 0)
 sumBelow-grows f {i} (suc n) h =
     ⊎-elim (λ e. rw e (le-refl (sumBelow (suc n) f))) (λ l. omega (arith, sumBelow-grows f n (le-of-suc-le-suc l))) (eq-or-lt-of-le h)
+
+-- and no less than a sum with its next value
+pub sumBelow-next-le : (f : ℕ → ℕ) {i : ℕ} (n : ℕ) → i < n → sumBelow i f + f i ≤ sumBelow n f
+sumBelow-next-le f {i} n h = omega (arith, sumBelow-next i f, sumBelow-grows f {i = i + 1} n (omega arith))
 
 pub sumBelow-const : (c n : ℕ) → sumBelow n (λ i. c) ≡ n * c
 unfolding sumBelow

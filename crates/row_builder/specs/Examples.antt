@@ -1,13 +1,48 @@
--- Rows in their slots, computed.
-use mathlib.Core.List.{[], _∷_, _++_, map}
+-- Rows that grow at their ends, computed.
+use mathlib.Core.List.{List, [], _∷_, _++_}
 use mathlib.Core.Path.{_≡_, refl}
-use lib.ListN.{replicate}
-use Rattle.lists.specs.Lists.{at}
-use Rattle.row_builder.specs.RowsInSlots.{rowInSlots}
+use Prim.Native.Nat.{ℕ, zero, suc, _+_, _<_}
+use native.Mathlib.Omega.{arith}
+use lib.ListN.{length, replicate}
+use Rattle.lists.specs.Lists.{at, Tabled}
+use Rattle.lists.specs.Below.{sumBelow, joinBelow, mapBelow}
+use Rattle.row_builder.specs.GrowingRows.{GrowingRows}
 
--- bus 0 has taken two of its 23 slots, bus 1 one, bus 2 none; what stands in the others does not matter
-in-slots :
-    map (rowInSlots ((1 ∷ 5 ∷ replicate 21 9) ++ (7 ∷ replicate 22 9) ++ replicate 23 9) (2 ∷ 1 ∷ 0 ∷ [])) (0 ∷ 1 ∷ 2 ∷ [])
-    ≡ (1 ∷ 5 ∷ []) ∷ (7 ∷ []) ∷ [] ∷ []
-unfolding rowInSlots at
-in-slots = refl
+abbrev counts : List ℕ
+counts = 2 ∷ 1 ∷ 3 ∷ []
+
+-- where three rows of 2, 1 and 3 numbers start, and where the last ends
+starts : mapBelow 4 (λ i. sumBelow i (at counts)) ≡ 0 ∷ 2 ∷ 3 ∷ 6 ∷ []
+unfolding mapBelow joinBelow sumBelow at
+starts = refl
+
+-- row 0 has one of its two numbers, row 1 its one, row 2 none; what stands in the other places does not matter
+abbrev rows : ℕ → List ℕ
+rows zero = 5 ∷ []
+rows (suc zero) = 7 ∷ []
+rows (suc (suc i)) = []
+
+abbrev next : List ℕ
+next = (1 ∷ 3 ∷ 3 ∷ []) ++ replicate 509 9
+
+abbrev all : List ℕ
+all = 5 ∷ 9 ∷ 7 ∷ 9 ∷ 9 ∷ 9 ∷ []
+
+goes-on : Tabled 3 (λ i. sumBelow i (at counts) + length (rows i)) next
+unfolding sumBelow at
+goes-on zero l = refl
+goes-on (suc zero) l = refl
+goes-on (suc (suc zero)) l = refl
+goes-on (suc (suc (suc i))) l = absurd (omega arith)
+
+each : (i j : ℕ) → i < 3 → j < length (rows i) → at all (sumBelow i (at counts) + j) ≡ at (rows i) j
+unfolding sumBelow at
+each zero zero l k = refl
+each zero (suc j) l k = absurd (omega arith)
+each (suc zero) zero l k = refl
+each (suc zero) (suc j) l k = absurd (omega arith)
+each (suc (suc i)) j l k = absurd (omega arith)
+
+growing : GrowingRows 3 (at counts) rows next all
+unfolding sumBelow at
+growing = record { places = refl; wide = refl; goesOn = goes-on; each = each }

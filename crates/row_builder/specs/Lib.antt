@@ -1,4 +1,4 @@
--- Rows in slots: definitions, computed examples, then laws.
-pub mod RowsInSlots
+-- Counts, row starts and growing rows: definitions, a computed example, then laws.
+pub mod GrowingRows
 pub mod Examples
-pub mod SlotLaws
+pub mod GrowingLaws
