@@ -1,2 +1,2 @@
-pub mod ReadEnds
-pub mod AddingRecords
+pub mod RecordLaws
+pub mod StoringRows

@@ -1,2 +1,2 @@
--- What the steps that add records promise one another.
-pub mod RecordsInSlots
+-- What the steps that read records in order promise one another.
+pub mod RecordSteps

@@ -3,10 +3,9 @@
 use mathlib.Core.Bool.{true, false, cond, _&&_, _||_, or-false, and-false, and-true}
 use mathlib.Core.List.{List, [], _∷_, _++_}
 use mathlib.Core.Logic.{⊎-elim}
-use mathlib.Core.Path.{_≡_, sym, ap, _∙_}
+use mathlib.Core.Path.{_≡_, sym, _∙_}
 use Prim.Native.Nat.{ℕ, zero, suc, _+_, _-_, _*_, _≤_, _<_}
 use native.Mathlib.Omega.{arith}
-use native.Mathlib.Nat.{not-suc-le-zero}
 use borrow.Author.Tests.{ltb-false, eqb-true, eqb-false, eq-eqb, ne-eqb, lt-ltb}
 use lib.Dec.{ltb, eqb}
 use Rattle.lists.specs.Below.{listBelow}
@@ -15,8 +14,7 @@ use Rattle.lists.specs.Loops.{last-or, anyBelow-at, anyBelow-by, anyBelow-none}
 use Rattle.lists.specs.ListBelow.{listBelow-same, listBelow-more}
 use Rattle.table_spec.specs.Limits.{maxBuses, maxLines}
 use Rattle.file_spec.specs.FileBytes.{firstEnd, secondEnd}
-use Rattle.file_spec.specs.Sections.{soundEnds}
-use Rattle.file_spec.specs.SoundSections.{SoundEnds, ends-facts}
+use Rattle.file_spec.specs.SoundSections.{SoundEnds}
 use Rattle.file_spec.specs.RecordOrder.{turned, pairBelow, falls, outOfOrder}
 use Rattle.file_spec.specs.Records.{joins, joined, neighbours, repeats}
 use Rattle.file_spec.specs.RecordPairs.{joined-next}
@@ -38,19 +36,16 @@ repeats-by r i k l e f =
 pub record OrderedRecords (n m : ℕ) (r : List ℕ) : Type 0 where
   pub buses : n ≤ maxBuses
   pub lines : m ≤ maxLines
-  pub sound : soundEnds n m r ≡ true
+  pub ends : SoundEnds n m r
   pub order : outOfOrder m r ≡ false
 
 module _ {n m : ℕ} {r : List ℕ} (g : OrderedRecords n m r) where
-  pub ends : SoundEnds n m r
-  ends = ends-facts n m r (g .sound)
-
   -- the lower bus stands first
   pub lower-first : (k : ℕ) → k < m → firstEnd r k < secondEnd r k
   unfolding outOfOrder turned
   lower-first k l =
       let z = or-none (turned r k) (falls r k) (anyBelow-none (λ k. turned r k || falls r k) m (g .order) l) in
-      let d : firstEnd r k ≡ secondEnd r k → ⊥ = ends k l .2 in
+      let d : firstEnd r k ≡ secondEnd r k → ⊥ = g .ends k l .2 in
       omega (arith, d, ltb-false (secondEnd r k) (firstEnd r k) (z .0))
 
   -- a record as one number, by which records ascend
@@ -66,7 +61,7 @@ module _ {n m : ℕ} {r : List ℕ} (g : OrderedRecords n m r) where
       let f = pair-facts a (secondEnd r k) c (secondEnd r (k - 1)) (rw (lt-ltb 0 k l) at (z .1)) in
       split (eqb a c)
       (λ e. let q = eqb-true a c e in omega (arith, q, f .1 q))
-      (λ e. let d : a ≡ c → ⊥ = eqb-false a c e in omega (arith, d, f .0, ends (k - 1) (omega arith) .1, g .buses))
+      (λ e. let d : a ≡ c → ⊥ = eqb-false a c e in omega (arith, d, f .0, g .ends (k - 1) (omega arith) .1, g .buses))
 
   rank-grows : (i k : ℕ) → i ≤ k → k < m → rank i ≤ rank k
   rank-grows i zero l b = let e : i ≡ 0 = omega arith in rw e (omega arith)
@@ -80,8 +75,8 @@ module _ {n m : ℕ} {r : List ℕ} (g : OrderedRecords n m r) where
   unfolding rank
   before i k l b =
       let h = rank-grows i k (omega arith) b in
-      let x = ends i (omega arith) .1 in
-      let y = ends k b .1 in
+      let x = g .ends i (omega arith) .1 in
+      let y = g .ends k b .1 in
       (omega (arith, h, x, y, g .buses), λ e. omega (arith, h, e))
 
   -- and where it names the same pair, its ends are the same, since the lower bus stands first in both
@@ -114,8 +109,8 @@ module _ {n m : ℕ} {r : List ℕ} (g : OrderedRecords n m r) where
       let i = w .0 in
       let low = rank-grows i (k - 1) (omega (arith, w .1)) (omega arith) in
       let high = rank-grows (k - 1) k (omega arith) b in
-      let y = ends (k - 1) (omega arith) .1 in
-      let z = ends k b .1 in
+      let y = g .ends (k - 1) (omega arith) .1 in
+      let z = g .ends k b .1 in
       (omega (arith, w .1), omega (arith, low, high, w .2, w .3, y, z, g .buses), omega (arith, low, high, w .2, w .3, y, z, g .buses))
 
   -- record k, which names a new pair
@@ -171,14 +166,14 @@ module _ {n m : ℕ} {r : List ℕ} (g : OrderedRecords n m r) where
     first-row =
         row-next a
         ∙ listBelow-same _ _ n (λ j l. rw (eqb-self a, apart, and-false (eqb a j), or-false (eqb c j)))
-        ∙ listBelow-more (joined k r a) c n (ends k b .1) (λ j l. first-low j)
+        ∙ listBelow-more (joined k r a) c n (g .ends k b .1) (λ j l. first-low j)
 
     second-row : neighbours n (k + 1) r c ≡ neighbours n k r c ++ (a ∷ [])
     unfolding neighbours joins
     second-row =
         row-next c
         ∙ listBelow-same _ _ n (λ j l. rw (eqb-comm a c, apart, eqb-self c, and-true (eqb a j)))
-        ∙ listBelow-more (joined k r c) a n (ends k b .0) (λ j l. second-low j)
+        ∙ listBelow-more (joined k r c) a n (g .ends k b .0) (λ j l. second-low j)
 
     other-row : (i : ℕ) → eqb a i ≡ false → eqb c i ≡ false → neighbours n (k + 1) r i ≡ neighbours n k r i
     unfolding neighbours joins

@@ -5,12 +5,12 @@ use mathlib.Core.Logic.{⊎-elim}
 use mathlib.Core.Path.{_≡_, sym, _∙_}
 use Prim.Native.Nat.{ℕ, _≤_, _<_}
 use native.Mathlib.Omega.{arith}
-use borrow.Author.Tests.{ltb-true, ltb-false, eqb-true, lt-ltb, le-ltb}
+use borrow.Author.Tests.{ltb-true, ltb-false, eqb-true}
 use lib.Dec.{ltb, eqb}
 use lib.ListN.{length}
 use Rattle.lists.specs.Lists.{has}
 use Rattle.lists.specs.Tests.{split, fails, and-left, and-right, or-cases}
-use Rattle.lists.specs.Loops.{anyBelow-at, anyBelow-by, anyBelow-none, anyBelow-fails}
+use Rattle.lists.specs.Loops.{anyBelow-at, anyBelow-none}
 use Rattle.lists.specs.ListBelow.{count-listBelow, has-listBelow, listBelow-in, listBelow-ascends}
 use Rattle.table_spec.specs.Limits.{maxDegree}
 use Rattle.table_spec.specs.Holds.{ValidRow}
@@ -18,7 +18,6 @@ use Rattle.file_spec.specs.FileBytes.{firstEnd, secondEnd}
 use Rattle.file_spec.specs.Sections.{soundEnds}
 use Rattle.file_spec.specs.SoundSections.{ends-facts}
 use Rattle.file_spec.specs.Records.{joins, joined, neighbours, degreeTooHigh}
-use Rattle.file_spec.specs.RecordPairs.{neighbours-grows}
 
 module _ (n m : ℕ) (r : List ℕ) (sound : soundEnds n m r ≡ true) where
   -- who is joined is a bus, and another one
@@ -60,21 +59,6 @@ module _ (n m : ℕ) (r : List ℕ) where
   abbrev tooMany : ℕ → Bool
   tooMany b = ltb maxDegree (length (neighbours n m r b))
 
-  pub too-high-none : ((i : ℕ) → i < n → length (neighbours n m r i) ≤ maxDegree) → degreeTooHigh n m r ≡ false
-  unfolding degreeTooHigh
-  too-high-none h = anyBelow-fails tooMany n (λ i l. le-ltb maxDegree _ (h i l))
-
-  pub too-high-one : (i : ℕ) → i < n → maxDegree < length (neighbours n m r i) → degreeTooHigh n m r ≡ true
-  unfolding degreeTooHigh
-  too-high-one i l h = anyBelow-by tooMany n i l (lt-ltb maxDegree _ h)
-
   pub neighbours-max-le : degreeTooHigh n m r ≡ false → (i : ℕ) → i < n → length (neighbours n m r i) ≤ maxDegree
   unfolding degreeTooHigh
   neighbours-max-le h i l = ltb-false maxDegree _ (anyBelow-none tooMany n h l)
-
--- a degree that is too high by the first records is so by all
-pub too-high-grows : (n k m : ℕ) (r : List ℕ) → k ≤ m → degreeTooHigh n k r ≡ true → degreeTooHigh n m r ≡ true
-unfolding degreeTooHigh
-too-high-grows n k m r b h =
-    let w = anyBelow-at (tooMany n k r) n h in
-    too-high-one n m r (w .0) (w .1) (omega (arith, ltb-true maxDegree (length (neighbours n k r (w .0))) (w .2), neighbours-grows n k m r (w .0) b))

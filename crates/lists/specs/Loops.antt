@@ -2,7 +2,7 @@
 use mathlib.Core.Bool.{Bool, true, false, _&&_, _||_, true≢false}
 use mathlib.Core.List.{List, [], _∷_, _++_}
 use mathlib.Core.Logic.{_⊎_, ⊎-elim}
-use mathlib.Core.Path.{_≡_, refl, sym, subst, _∙_}
+use mathlib.Core.Path.{_≡_, refl, sym, ap, ap₂, subst, _∙_}
 use Prim.Native.Nat.{ℕ, zero, suc, _+_, _≤_, _<_, max}
 use native.Mathlib.Nat.{not-suc-le-zero, eq-or-lt-of-le, le-of-suc-le-suc, max-eq-left, max-eq-right}
 use native.Mathlib.Numerals.{add-one}
@@ -10,9 +10,9 @@ use native.Mathlib.Omega.{arith}
 use borrow.Author.Tests.{eqb-true, eqb-false}
 use lib.Dec.{eqb}
 use lib.ListN.{length, set, take}
-use Rattle.lists.specs.Lists.{sumBy, at, Tabled}
+use Rattle.lists.specs.Lists.{indicator, sumBy, at, Tabled}
 use Rattle.lists.specs.Below.{allBelow, anyBelow, sumBelow, largestBelow, joinBelow, mapBelow}
-use Rattle.lists.specs.Tests.{split, fails, never-both, and-both, and-left, and-right, or-left, or-right}
+use Rattle.lists.specs.Tests.{split, fails, never-both, and-both, and-left, and-right, or-left, or-right, eqb-comm}
 use Rattle.lists.specs.Sums.{sumBy-append}
 use Rattle.lists.specs.Places.{at-set, take-next}
 
@@ -72,6 +72,16 @@ tabled-next f n l {x} h b e i g =
     (λ t. let q : i ≡ n = eqb-true i n t in rw (t, q) e)
     (λ t. let d : i ≡ n → ⊥ = eqb-false i n t in rw t (h i (omega (arith, d))))
 
+-- 1 added to one entry
+pub tabled-more : (f : ℕ → ℕ) (n : ℕ) (l : List ℕ) (k : ℕ) → Tabled n f l → k < n → k < length l
+    → Tabled n (λ i. f i + indicator (eqb k i)) (set l k (at l k + 1))
+tabled-more f n l k h b c i g =
+    at-set l k (at l k + 1) i c
+    ∙ rw (eqb-comm i k)
+    (split (eqb k i)
+    (λ t. let q : k ≡ i = eqb-true k i t in rw (t, ← q) (ap (λ x. x + 1) (h k b)))
+    (λ t. rw t (omega (arith, h i g))))
+
 -- the next value is larger than those before it, or it is not
 module _ (f : ℕ → ℕ) (i : ℕ) {m k : ℕ} (em : m ≡ largestBelow i f) (ek : k ≡ f i) where
   pub largestBelow-rises : m < k → k ≡ largestBelow (i + 1) f
@@ -129,3 +139,9 @@ module _ (p : ℕ → Bool) where
 
   pub anyBelow-fails : (n : ℕ) → ((i : ℕ) → i < n → p i ≡ false) → anyBelow n p ≡ false
   anyBelow-fails n h = fails (anyBelow n p) (λ t. let w = anyBelow-at n t in never-both (w .2) (h (w .0) (w .1)))
+
+-- tests that agree below n agree on some number
+pub anyBelow-same : (p q : ℕ → Bool) (n : ℕ) → ((i : ℕ) → i < n → p i ≡ q i) → anyBelow n p ≡ anyBelow n q
+unfolding anyBelow
+anyBelow-same p q zero h = refl
+anyBelow-same p q (suc n) h = ap₂ _||_ (anyBelow-same p q n (λ i l. h i (omega arith))) (h n (omega arith))

@@ -7,12 +7,12 @@ use native.Mathlib.Numerals.{add-one}
 use native.Mathlib.Omega.{arith}
 use lib.ListN.{length, set, take, drop, length-append, length-take, length-drop, take-append-drop}
 use lib.Dec.{ltb}
-use lib.Seq.{drop-cons, append-snoc, set-at, take-at, drop-at, drop-append-le, drop-append-add, drop-drop, length-take-le, take-set-le, drop-set-lt, take-all, ext-getD}
+use lib.Seq.{drop-cons, append-snoc, set-at, take-at, drop-at, drop-append-add, drop-drop, length-take-le, take-set-le, drop-set-lt, take-all, ext-getD}
 use borrow.Author.Tests.{ltb-true, ltb-false}
 use Rattle.lists.specs.Lists.{at, part, Tabled, put}
 use Rattle.lists.specs.Below.{mapBelow}
 use Rattle.lists.specs.Tests.{split}
-use Rattle.lists.specs.Places.{at-append, at-behind, at-drop, length-part, part-append, take-next}
+use Rattle.lists.specs.Places.{at-append, at-behind, at-drop, part-append, take-next}
 use Rattle.lists.specs.JoinBelow.{length-mapBelow, mapBelow-at}
 
 -- what is written at the front, and behind it the rest as it was
@@ -144,14 +144,8 @@ module _ (t : List ℕ) (i : ℕ) (l : List ℕ) where
     pub copied-all : length l ≤ k → u ≡ put t i l
     copied-all h = w .1 ∙ ap (put t i) (take-all k l h)
 
--- what is written at the front of a part stands in the whole from the part's start on
-pub put-part : (t : List ℕ) (a e : ℕ) (vs : List ℕ) → e ≤ length t → length vs ≤ e - a
-    → take a t ++ (put (part a e t) 0 vs ++ drop (e - a) (drop a t)) ≡ put t a vs
+-- what takes the whole of a part stands in the list from the part's start on
+pub put-whole : (t : List ℕ) (a : ℕ) {e : ℕ} (vs : List ℕ) → e ≡ a + length vs → take a t ++ (vs ++ drop (e - a) (drop a t)) ≡ put t a vs
 unfolding put
-put-part t a e vs h l =
-    let d = drop a t in
-    let s = length-part a e t h in
-    ap (λ r. take a t ++ (r ++ drop (e - a) d)) (put-front (part a e t) vs)
-    ∙ ap (λ r. take a t ++ r)
-    (append-assoc vs (drop (length vs) (part a e t)) (drop (e - a) d)
-    ∙ ap (λ r. vs ++ r) (sym (drop-append-le (length vs) (part a e t) (drop (e - a) d) (omega arith)) ∙ ap (drop (length vs)) (take-append-drop (e - a) d) ∙ drop-drop (length vs) a t))
+put-whole t a {e} vs h =
+    let q : e - a ≡ length vs = omega arith in ap (λ l. take a t ++ (vs ++ l)) (ap (λ k. drop k (drop a t)) q ∙ drop-drop (length vs) a t)

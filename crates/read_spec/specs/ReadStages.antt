@@ -15,10 +15,6 @@ use Rattle.read_spec.specs.ReadOutcome.{degreeCauses, roomCauses, record
 abbrev pub TableDue : List Cause → List ℕ → ℕ → (ℕ → List ℕ) → List ℕ → Outcome Counts → List ℕ → Type 0
 TableDue cs q m rows t o t′ = Due cs (record { buses = length q; lines = m }) (put t 0 (tableOf (length q) q rows)) t o t′
 
--- the rows are there: only room is asked for
-abbrev pub RoomDue : List ℕ → ℕ → (ℕ → List ℕ) → List ℕ → Outcome Counts → List ℕ → Type 0
-RoomDue q m rows t o t′ = TableDue (roomCauses (length q) m (length t)) q m rows t o t′
-
 -- m records r are sound and in order
 abbrev pub LinesDue : List ℕ → ℕ → List ℕ → List ℕ → Outcome Counts → List ℕ → Type 0
 LinesDue q m r t o t′ =

@@ -4,15 +4,13 @@ ghost use mathlib.Core.Path.{_≡_};
 ghost use Prim.Native.Nat.{_+_, _*_, _≤_};
 ghost use lib.ListN.{length};
 ghost use Rattle.lists.specs.Lists.{put};
-ghost use Rattle.lists.specs.Below.{joinBelow};
 ghost use Rattle.table_spec.specs.Limits.{maxBuses, maxLines};
 ghost use Rattle.file_sections.specs.FileAnswers.{outcomeOfReading};
-ghost use Rattle.row_builder.specs.RowsInSlots.{rowInSlots, RowsInSlots};
-ghost use Rattle.file_records.specs.RecordsInSlots.{SoundRecords};
+ghost use Rattle.file_spec.specs.OrderedRecords.{OrderedRecords};
 ghost use Rattle.read_spec.specs.ReadOutcome.{readOutcome, tableAfter, Recorded};
-ghost use Rattle.read_spec.specs.ReadStages.{RoomDue, LinesDue, RecordsDue};
-use file_records::add_records;
-use file_sections::Counted;
+ghost use Rattle.read_spec.specs.ReadStages.{LinesDue, RecordsDue};
+use file_records::count_neighbours;
+use file_records::store_rows;
 pub use file_sections::Counts;
 pub use file_sections::Reading;
 use file_sections::judge;
@@ -20,12 +18,10 @@ use file_sections::need_bytes;
 use file_sections::out_of_order;
 use file_sections::records;
 use file_sections::sound_ends;
-use network::Network;
 pub use network::Refusal;
 use network::table::entries;
-use row_builder::store_layout;
+use row_builder::degree_too_high;
 use row_builder::zero_counts;
-use row_builder::zero_slots;
 
 // Writes the bus count and the needs.
 fn store_needs(needs: &[u8], table: &mut [u16])
@@ -40,39 +36,26 @@ fn store_needs(needs: &[u8], table: &mut [u16])
     }
 }
 
-// Stores the table of buses with these needs and of m lines, whose neighbours stand in the slots.
-fn store_table(
-    needs: &[u8],
-    m: usize,
-    slots: &[u16],
-    counts: &[u16; Network::BUSES],
-    table: &mut [u16],
-) -> Reading
-    requires { ⌜ (length (now needs) ≤ maxBuses) × (m ≤ maxLines) × RowsInSlots (now slots) (now counts) ⌝ }
-    requires { ⌜ length (joinBelow (length (now needs)) (rowInSlots (now slots) (now counts))) ≡ 2 * m ⌝ }
-    ensures { λ r. ⌜ RoomDue (now (needs .entry)) m (rowInSlots (now (slots .entry)) (now (counts .entry))) (now (table .entry)) (outcomeOfReading r) (now (table .exit)) ⌝ }
-{
-    let n = needs.len();
-    if table.len() < entries(n, m) {
-        return Reading::Refused(Refusal::TableTooShort);
-    }
-    store_needs(needs, table);
-    store_layout(slots, counts, n, table, 1 + n);
-    Reading::Accepted(Counts { buses: n, lines: m })
-}
-
-// Reads m records whose ends are sound, of buses with these needs.
+// Reads m records that are sound and in order, of buses with these needs.
 fn read_lines(needs: &[u8], section: &[u8], m: usize, table: &mut [u16]) -> Reading
-    requires { ⌜ (4 * m ≤ length (now section)) × SoundRecords (length (now needs)) m (now section) ⌝ }
+    requires { ⌜ (4 * m ≤ length (now section)) × OrderedRecords (length (now needs)) m (now section) ⌝ }
     ensures { λ r. ⌜ LinesDue (now (needs .entry)) m (now (section .entry)) (now (table .entry)) (outcomeOfReading r) (now (table .exit)) ⌝ }
 {
     let n = needs.len();
-    let mut slots = zero_slots();
     let mut counts = zero_counts();
-    match add_records(section, n, m, &mut slots, &mut counts) {
-        Counted::Refused(cause) => Reading::Refused(cause),
-        Counted::Is(pairs) => store_table(needs, pairs, &slots, &counts, table),
+    let pairs = count_neighbours(section, n, m, &mut counts);
+    if degree_too_high(&counts, n) {
+        return Reading::Refused(Refusal::DegreeTooHigh);
     }
+    if table.len() < entries(n, pairs) {
+        return Reading::Refused(Refusal::TableTooShort);
+    }
+    store_needs(needs, table);
+    store_rows(section, n, m, &mut counts, table, 1 + n);
+    Reading::Accepted(Counts {
+        buses: n,
+        lines: pairs,
+    })
 }
 
 // Reads m records, of buses with these needs.

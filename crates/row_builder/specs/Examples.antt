@@ -28,12 +28,12 @@ next = (1 ∷ 3 ∷ 3 ∷ []) ++ replicate 509 9
 abbrev all : List ℕ
 all = 5 ∷ 9 ∷ 7 ∷ 9 ∷ 9 ∷ 9 ∷ []
 
-goes-on : Tabled 3 (λ i. sumBelow i (at counts) + length (rows i)) next
+placed : Tabled 3 (λ i. sumBelow i (at counts) + length (rows i)) next
 unfolding sumBelow at
-goes-on zero l = refl
-goes-on (suc zero) l = refl
-goes-on (suc (suc zero)) l = refl
-goes-on (suc (suc (suc i))) l = absurd (omega arith)
+placed zero l = refl
+placed (suc zero) l = refl
+placed (suc (suc zero)) l = refl
+placed (suc (suc (suc i))) l = absurd (omega arith)
 
 each : (i j : ℕ) → i < 3 → j < length (rows i) → at all (sumBelow i (at counts) + j) ≡ at (rows i) j
 unfolding sumBelow at
@@ -45,4 +45,4 @@ each (suc (suc i)) j l k = absurd (omega arith)
 
 growing : GrowingRows 3 (at counts) rows next all
 unfolding sumBelow at
-growing = record { places = refl; wide = refl; goesOn = goes-on; each = each }
+growing = record { size = refl; wide = refl; placed = placed; each = each }

@@ -1,5 +1,5 @@
 -- Laws of rows that grow at their ends.
-use mathlib.Core.Bool.{cond}
+use mathlib.Core.Bool.{Bool, true, false, cond}
 use mathlib.Core.List.{List, [], _∷_, _++_}
 use mathlib.Core.Path.{_≡_, sym, ap, _∙_}
 use Prim.Native.Nat.{ℕ, _+_, _≤_, _<_}
@@ -8,23 +8,29 @@ use native.Mathlib.Omega.{arith}
 use lib.Dec.{eqb, leb}
 use lib.ListN.{length, set, length-set, length-append}
 use borrow.Author.Tests.{eqb-true, eqb-false, ne-eqb, leb-true, leb-false}
-use Rattle.lists.specs.Lists.{at, Tabled}
+use Rattle.lists.specs.Lists.{indicator, at, Tabled}
 use Rattle.lists.specs.Below.{sumBelow, joinBelow}
-use Rattle.lists.specs.Tests.{split, eqb-comm}
+use Rattle.lists.specs.Tests.{split}
 use Rattle.lists.specs.Places.{at-set, at-append, at-behind}
+use Rattle.lists.specs.Loops.{tabled-more}
 use Rattle.lists.specs.SumsBelow.{sumBelow-next-le}
 use Rattle.lists.specs.JoinBelow.{joinBelow-by}
 use Rattle.table_spec.specs.Limits.{maxBuses}
 use Rattle.row_builder.specs.GrowingRows.{GrowingRows}
+
+-- a number stands behind a row, if at all
+pub length-grown : (t : Bool) (l : List ℕ) (x : ℕ) → length (cond t (l ++ (x ∷ [])) l) ≡ length l + indicator t
+length-grown true l x = length-append l (x ∷ [])
+length-grown false l x = omega arith
 
 -- rows that have no number yet
 pub growing-none : (n : ℕ) (sizes : ℕ → ℕ) {next all : List ℕ} → length next ≡ maxBuses → length all ≡ sumBelow n sizes
     → Tabled n (λ i. sumBelow i sizes) next → GrowingRows n sizes (λ i. []) next all
 growing-none n sizes p w t =
     record {
-      places = p;
+      size = p;
       wide = w;
-      goesOn = λ i l. t i l ∙ sym (add-zero (sumBelow i sizes));
+      placed = λ i l. t i l ∙ sym (add-zero (sumBelow i sizes));
       each = λ i j l k. absurd (omega arith);
     }
 
@@ -32,15 +38,15 @@ module _ {n : ℕ} {sizes : ℕ → ℕ} {rows : ℕ → List ℕ} {next all : L
   pub growing-same : (rows′ : ℕ → List ℕ) → ((i : ℕ) → i < n → rows i ≡ rows′ i) → GrowingRows n sizes rows′ next all
   growing-same rows′ e =
       record {
-        places = w .places;
+        size = w .size;
         wide = w .wide;
-        goesOn = λ i l. w .goesOn i l ∙ ap (λ r. sumBelow i sizes + length r) (e i l);
+        placed = λ i l. w .placed i l ∙ ap (λ r. sumBelow i sizes + length r) (e i l);
         each = λ i j l k. w .each i j l (omega (arith, ap length (e i l))) ∙ ap (λ r. at r j) (e i l);
       }
 
   -- a row that is not whole yet goes on within the list
   pub growing-fits : {bus : ℕ} → bus < n → length (rows bus) < sizes bus → at next bus < length all
-  growing-fits {bus} b short = omega (arith, w .goesOn bus b, w .wide, sumBelow-next-le sizes n b)
+  growing-fits {bus} b short = omega (arith, w .placed bus b, w .wide, sumBelow-next-le sizes n b)
 
   -- the row of one bus grows: x is stored where it goes on, and the place moves on
   module _ (bus x : ℕ) (b : bus < n) (most : n ≤ maxBuses) (short : length (rows bus) < sizes bus) (fit : (i : ℕ) → i < n → length (rows i) ≤ sizes i) where
@@ -55,17 +61,14 @@ module _ {n : ℕ} {sizes : ℕ → ℕ} {rows : ℕ → List ℕ} {next all : L
 
     place-at : Tabled n (λ i. sumBelow i sizes + length (grown i)) moved
     place-at i l =
-        at-set next bus (at next bus + 1) i (omega (arith, w .places))
-        ∙ rw (eqb-comm i bus)
-        (split (eqb bus i)
-        (λ t. let e : bus ≡ i = eqb-true bus i t in rw (t, ← e) (omega (arith, w .goesOn bus b, length-append (rows bus) (x ∷ []))))
-        (λ t. rw t (w .goesOn i l)))
+        tabled-more (λ i. sumBelow i sizes + length (rows i)) n next bus (w .placed) b (omega (arith, w .size)) i l
+        ∙ omega (arith, length-grown (eqb bus i) (rows i) x)
 
     -- the row that grew, and another
     own-number : (j : ℕ) → j < length (rows bus ++ (x ∷ [])) → at stored (sumBelow bus sizes + j) ≡ at (rows bus ++ (x ∷ [])) j
     unfolding at
     own-number j k =
-        let g = w .goesOn bus b in
+        let g = w .placed bus b in
         let y = sumBelow bus sizes + j in
         at-set all (at next bus) x y (growing-fits b short)
         ∙ split (eqb y (at next bus))
@@ -76,7 +79,7 @@ module _ {n : ℕ} {sizes : ℕ → ℕ} {rows : ℕ → List ℕ} {next all : L
 
     other-number : (i j : ℕ) → i < n → j < length (rows i) → (bus ≡ i → ⊥) → at stored (sumBelow i sizes + j) ≡ at (rows i) j
     other-number i j l k d =
-        let g = w .goesOn bus b in
+        let g = w .placed bus b in
         let y = sumBelow i sizes + j in
         let apart : y ≡ at next bus → ⊥ = λ e. split (leb bus i)
         (λ t. let a = leb-true bus i t in omega (arith, sumBelow-next-le sizes {i = bus} i (omega (arith, d))))
@@ -92,7 +95,7 @@ module _ {n : ℕ} {sizes : ℕ → ℕ} {rows : ℕ → List ℕ} {next all : L
     pub growing-next : {next′ all′ : List ℕ} → all′ ≡ stored → next′ ≡ moved → GrowingRows n sizes grown next′ all′
     growing-next e f =
         rw (e, f)
-        record { places = length-set next bus _ ∙ w .places; wide = length-set all _ x ∙ w .wide; goesOn = place-at; each = number-at }
+        record { size = length-set next bus _ ∙ w .size; wide = length-set all _ x ∙ w .wide; placed = place-at; each = number-at }
 
   -- rows that are whole are the list
   pub growing-done : ((i : ℕ) → i < n → length (rows i) ≡ sizes i) → all ≡ joinBelow n rows

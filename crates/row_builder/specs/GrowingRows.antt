@@ -21,7 +21,7 @@ pub record RowStarts (n : ℕ) (counts starts : List ℕ) : Type 0 where
 -- n rows that grow at their ends, in a list that has room for the whole of each, one behind the other: row i has sizes i numbers in the end,
 -- has those of `rows i` so far, and goes on at place `next i`
 pub record GrowingRows (n : ℕ) (sizes : ℕ → ℕ) (rows : ℕ → List ℕ) (next all : List ℕ) : Type 0 where
-  pub places : length next ≡ maxBuses
+  pub size : length next ≡ maxBuses
   pub wide : length all ≡ sumBelow n sizes
-  pub goesOn : Tabled n (λ i. sumBelow i sizes + length (rows i)) next
+  pub placed : Tabled n (λ i. sumBelow i sizes + length (rows i)) next
   pub each : (i j : ℕ) → i < n → j < length (rows i) → at all (sumBelow i sizes + j) ≡ at (rows i) j

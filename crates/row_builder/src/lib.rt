@@ -1,10 +1,11 @@
 // Row starts of a table from counts of neighbours, and rows that grow at their ends. Nothing here knows of a file.
 ghost use mathlib.Core.Path.{_≡_};
 ghost use Prim.Native.Nat.{_+_, _≤_, _<_};
+ghost use lib.Dec.{ltb};
 ghost use lib.ListN.{length, set};
 ghost use Rattle.lists.specs.Lists.{at, put};
-ghost use Rattle.lists.specs.Below.{sumBelow, mapBelow};
-ghost use Rattle.table_spec.specs.Limits.{maxBuses};
+ghost use Rattle.lists.specs.Below.{anyBelow, sumBelow, mapBelow};
+ghost use Rattle.table_spec.specs.Limits.{maxBuses, maxDegree};
 ghost use Rattle.row_builder.specs.GrowingRows.{AllZero, RowStarts};
 use network::Network;
 
@@ -23,12 +24,33 @@ pub fn increment(counts: &mut [u16; Network::BUSES], bus: usize)
     counts[bus] = counts[bus] + 1;
 }
 
+// Whether one of n buses has more neighbours than it may have lines.
+pub fn degree_too_high(counts: &[u16; Network::BUSES], n: usize) -> bool
+    requires { ⌜ n ≤ maxBuses ⌝ }
+    ensures { λ b. ⌜ b ≡ anyBelow n (λ i. ltb maxDegree (at (now (counts .entry)) i)) ⌝ }
+{
+    let mut bus = 0;
+    while bus < n {
+        if (Network::LINES_AT_BUS as u16) < counts[bus] {
+            return true;
+        }
+        bus += 1;
+    }
+    false
+}
+
 // Writes the row starts of n buses, which have so many neighbours, into the table from place `from` on. Each count becomes the start of its row.
-pub fn store_starts(counts: &mut [u16; Network::BUSES], n: usize, table: &mut [u16], from: usize)
+// Gives how many numbers all rows have.
+pub fn store_starts(
+    counts: &mut [u16; Network::BUSES],
+    n: usize,
+    table: &mut [u16],
+    from: usize,
+) -> usize
     requires { ⌜ (n ≤ maxBuses) × (from + n + 1 ≤ length (now table)) ⌝ }
     requires { ⌜ (length (now counts) ≡ maxBuses) × (sumBelow n (at (now counts)) < 65536) ⌝ }
     ensures { λ _. ⌜ now (table .exit) ≡ put (now (table .entry)) from (mapBelow (n + 1) (λ i. sumBelow i (at (now (counts .entry))))) ⌝ }
-    ensures { λ _. ⌜ RowStarts n (now (counts .entry)) (now (counts .exit)) ⌝ }
+    ensures { λ r. ⌜ (r ≡ sumBelow n (at (now (counts .entry)))) × RowStarts n (now (counts .entry)) (now (counts .exit)) ⌝ }
 {
     let mut start = 0;
     let mut bus = 0;
@@ -40,6 +62,7 @@ pub fn store_starts(counts: &mut [u16; Network::BUSES], n: usize, table: &mut [u
         bus += 1;
     }
     table[from + n] = start;
+    start as usize
 }
 
 // Writes x behind the numbers that the row of a bus has so far.

@@ -5,7 +5,7 @@ use mathlib.Core.Bool.{true, false, _||_, or-false}
 use mathlib.Core.List.{List}
 use mathlib.Core.Path.{_≡_, sym, ap₂, _∙_}
 use Prim.Native.Nat.{ℕ, _-_, _≤_, _<_}
-use lib.Dec.{ltb, eqb}
+use lib.Dec.{ltb}
 use borrow.Author.Tests.{lt-ltb, le-ltb, eq-eqb, ne-eqb}
 use Rattle.file_spec.specs.FileBytes.{firstEnd, secondEnd}
 use Rattle.file_spec.specs.RecordOrder.{turned, pairBelow, falls}

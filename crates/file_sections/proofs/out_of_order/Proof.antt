@@ -1,11 +1,10 @@
 -- `file_sections::out_of_order` meets its contract. The loop's invariant: the records passed are in order.
 use borrow.Author.Needs.{needs}
-use native.Mathlib.Omega.{arith}
-use mathlib.Core.Bool.{false, _||_}
-use mathlib.Core.Path.{_≡_, sym, ap, ap₂, _∙_}
+use mathlib.Core.Bool.{false}
+use mathlib.Core.Path.{_≡_, sym, _∙_}
 use Prim.Native.Nat.{_-_, _≤_}
-use Rattle.lists.specs.Loops.{by-end, anyBelow-start, anyBelow-next, anyBelow-by}
-use Rattle.file_spec.specs.RecordOrder.{turned, falls, outOfOrder}
+use Rattle.lists.specs.Loops.{by-end, anyBelow-start, anyBelow-by, anyBelow-more}
+use Rattle.file_spec.specs.RecordOrder.{outOfOrder}
 use Rattle.file_sections.proofs.out_of_order.Statement.{statement}
 use Rattle.file_sections.proofs.out_of_order.Tie as tie
 
@@ -27,7 +26,7 @@ loop-again : tie.Need-loop-again Inv-loop μ-loop
 unfolding outOfOrder
 loop-again c = (
   search needs,
-  anyBelow-next _ _ ∙ ap₂ _||_ (c .before .before .before .loop .inv .1) (sym (c .before .misplaced .ensures) ∙ c .if1 .left),
+  anyBelow-more _ _ (c .before .before .before .loop .inv .1) (sym (c .before .misplaced .ensures) ∙ c .if1 .left),
 )
 
 returns-2 : tie.Need-returns-2 Inv-loop μ-loop

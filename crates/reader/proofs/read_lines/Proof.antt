@@ -1,48 +1,66 @@
 -- `reader::read_lines` meets its contract. The degrees decide, or else the room for the table.
 use borrow.Author.Needs.{needs}
-use mathlib.Core.Path.{_≡_, subst}
-use lib.ListN.{length}
 use native.Mathlib.Omega.{arith}
-use Rattle.refusals.specs.Due.{stop, pass}
-use Rattle.file_sections.specs.declared.Counted.{Counted}
-use Rattle.file_sections.specs.declared.Counted.the-variants.{Is, Refused}
+use mathlib.Core.Path.{_≡_, refl, sym, ap, _∙_}
+use mathlib.Core.Bool.{false}
+use Prim.Native.Nat.{ℕ}
+use lib.ListN.{length}
+use Rattle.refusals.specs.Due.{stop, pass, below, not-below, accept}
+use Rattle.table_spec.specs.Layout.{tableEntries}
+use Rattle.file_spec.specs.Records.{neighbours, degreeTooHigh, pairCount}
 use Rattle.file_spec.specs.RecordPairs.{pairCount-le}
-use Rattle.file_records.specs.RecordsInSlots.{RecordsAfter}
-use Rattle.reader.proofs.Building.{rows-numbers, rows-stored}
+use Rattle.reader.proofs.Building.{laid-length, too-high-counted, built}
 use Rattle.reader.proofs.read_lines.Statement.{statement}
 use Rattle.reader.proofs.read_lines.Tie as tie
 
--- where the records were added, and what that left, where it answered q
-abbrev start : tie.After-add-records → tie.Start
-start p = p .before .before .before .before .before .before .before .before
+-- where neighbours were counted, and the degrees that they make
+abbrev counting : tie.Else1 → tie.After-count-neighbours
+counting d = d .before .before .before
 
-answered : (p : tie.After-add-records) (q : Counted) → p .add-records .result ≡ q
-    → let a = start p .args in RecordsAfter q (length (a .needs .now)) (a .m) (a .section .now) (p .add-records .last .1 .1 .1 .0) (p .add-records .last .1 .1 .1 .1 .0)
-answered p q e = let a = start p .args in subst (λ q. RecordsAfter q (length (a .needs .now)) (a .m) (a .section .now) (p .add-records .last .1 .1 .1 .0) (p .add-records .last .1 .1 .1 .1 .0)) e (p .add-records .ensures)
+abbrev start : tie.After-count-neighbours → tie.Start
+start p = p .before .before .before .before .before .before
 
-store-table-requires : tie.Need-store-table-requires
-store-table-requires c κs =
-    let d = c .before .before .before .before in
-    let p : tie.After-add-records = d .before .before .before in
+entries-requires : tie.Need-entries-requires
+entries-requires c κs =
+    let p = counting c in
     let s = start p in
     let g = s .pre .1 in
-    let w = answered p (Is (d .pairs .given .0 .0)) (d .pairs .given .1) in
-    let z = w .1 in
-    ((g .buses, omega (arith, z, pairCount-le (s .args .m) (s .args .section .now), g .lines), w .2 .rows), omega (arith, z, rows-numbers (s .args .needs .now) g (w .2)))
+    (g .buses, omega (arith, p .count-neighbours .ensures .0, pairCount-le (s .args .m) (s .args .section .now), g .lines))
 
 returns : tie.Need-returns
-returns c =
-    let p : tie.After-add-records = c .before .before .before .before in
-    let w = answered p (Refused (c .before .cause .given .0 .0)) (c .before .cause .given .1) in
-    rw (w .1) (stop (w .0))
+returns c = stop (sym (too-high-counted (c .before .before .before .count-neighbours .ensures .1)) ∙ sym (c .before .degree-too-high .ensures) ∙ c .if1 .taken)
+
+-- no degree is too high
+low : (d : tie.Else1) → let s = start (counting d) in degreeTooHigh (length (s .args .needs .now)) (s .args .m) (s .args .section .now) ≡ false
+low d = sym (too-high-counted (counting d .count-neighbours .ensures .1)) ∙ sym (d .before .degree-too-high .ensures) ∙ d .if1 .left
+
+-- so many entries are asked for
+asked : (e : tie.After-entries) → let p = counting (e .before) in let s = start p in e .entries .result ≡ tableEntries (length (s .args .needs .now)) (pairCount (s .args .m) (s .args .section .now))
+asked e = e .entries .ensures ∙ ap (tableEntries _) (counting (e .before) .count-neighbours .ensures .0)
 
 returns-2 : tie.Need-returns-2
-returns-2 c =
-    let d = c .before .before .before .before .before .before .before in
-    let p : tie.After-add-records = d .before .before .before in
-    let s = start p in
-    let w = answered p (Is (d .pairs .given .0 .0)) (d .pairs .given .1) in
-    pass (w .0) (rows-stored (s .args .needs .now) (s .pre .1) (w .2) (s .args .table .now) (rw (w .1) at (c .before .before .store-table .ensures)))
+returns-2 c = pass (low (c .before .before)) (below refl (asked (c .before)) (c .if2 .taken))
+
+store-rows-requires : tie.Need-store-rows-requires
+store-rows-requires c κs =
+    let q = c .before .before .before .before in
+    let e = q .before .before in
+    let p = counting (e .before .before) in
+    let h = start p .pre in
+    ((h .0, h .1, p .count-neighbours .ensures .1), omega (arith, laid-length (h .1), asked (e .before), e .if2 .left, q .store-needs .kept .1 .0))
+
+returns-3 : tie.Need-returns-3
+returns-3 c =
+    let f = c .before .before in
+    let q = f .before .before .before .before .before in
+    let e = q .before .before in
+    let p = counting (e .before .before) in
+    let a = start p .args in
+    pass (low (e .before .before))
+    (not-below refl (asked (e .before)) (e .if2 .left)
+    (accept
+    (ap (λ (k : ℕ). record { buses = length (a .needs .now); lines = k }) (p .count-neighbours .ensures .0))
+    (built (a .table .now) (a .needs .now) (neighbours (length (a .needs .now)) (a .m) (a .section .now)) (q .store-needs .ensures) (f .store-rows .ensures))))
 
 pub read-lines-spec : {M : Type 1} → statement M
 read-lines-spec =
@@ -50,12 +68,12 @@ read-lines-spec =
     (tie.spec
     (λ c κs. search needs)
     (λ c κs. search needs)
-    (λ c. search needs)
+    (λ c κs. search needs)
+    returns
+    entries-requires
+    returns-2
     (λ c κs. search needs)
     (λ c. search needs)
+    store-rows-requires
     (λ c. search needs)
-    (λ c. search needs)
-    store-table-requires
-    returns
-    (λ c. search needs)
-    returns-2)
+    returns-3)

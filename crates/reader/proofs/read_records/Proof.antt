@@ -3,6 +3,7 @@ use borrow.Author.Needs.{needs}
 use mathlib.Core.Path.{sym, _∙_}
 use Rattle.lists.specs.Tests.{negated, passed}
 use Rattle.refusals.specs.Due.{stop, pass}
+use Rattle.file_spec.specs.SoundSections.{ends-facts}
 use Rattle.reader.proofs.read_records.Statement.{statement}
 use Rattle.reader.proofs.read_records.Tie as tie
 
@@ -16,9 +17,17 @@ returns-2 c =
 
 read-lines-requires : tie.Need-read-lines-requires
 read-lines-requires c κs =
-    let e = c .before .before .before in
-    let h = e .before .before .before .before .before .pre in
-    (h .2, record { buses = h .0; lines = h .1; sound = passed (e .before .sound-ends .ensures) (e .if1 .left) })
+    let d = c .before in
+    let e = d .before .before in
+    let h = e .before .before .before .before .before .pre in (
+      h .2,
+      record {
+        buses = h .0;
+        lines = h .1;
+        ends = ends-facts _ _ _ (passed (e .before .sound-ends .ensures) (e .if1 .left));
+        order = sym (d .before .out-of-order .ensures) ∙ d .if2 .left;
+      },
+    )
 
 returns-3 : tie.Need-returns-3
 returns-3 c =

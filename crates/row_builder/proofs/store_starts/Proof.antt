@@ -62,6 +62,10 @@ module _ (c : tie.At-loop Inv-loop μ-loop) where
       set (c .loop .table) (a .from + c .loop .bus) (c .loop .start) ≡ put (a .table .now) (a .from) (mapBelow (c .loop .bus + 1) (starts counts))
   stored = listed-next _ _ _ _ (c .loop .inv .3) refl (c .loop .inv .1) (omega (arith, c .before .pre .0 .1, c .loop .inv .0))
 
+  -- in the end all counts are added up
+  done : c .before .args .n ≤ c .loop .bus → c .loop .start ≡ starts counts (c .before .args .n)
+  done all = by-end (λ k. c .loop .start ≡ starts counts k) (c .loop .inv .1) (c .loop .inv .0) all
+
 loop-holds : tie.Need-loop-holds Inv-loop μ-loop
 unfolding mapBelow joinBelow sumBelow
 loop-holds c = (search needs, refl, sym (put-none _ _), sym (put-none _ _))
@@ -85,6 +89,9 @@ loop-again c =
 slice-write-table-2 : tie.Need-slice-write-table-2 Inv-loop μ-loop
 slice-write-table-2 c = let z = size (c .before) in omega arith
 
+cast-result : tie.Need-cast-result Inv-loop μ-loop
+cast-result c = let v = c .before in omega (arith, done v (c .loop-test .left), v .before .pre .1 .1)
+
 same-length : tie.Need-same-length Inv-loop μ-loop
 same-length c = simp length-set (size (c .before))
 
@@ -96,13 +103,16 @@ returns c =
     let all = c .loop-test .left in (
       by-end (λ k. set (v .loop .table) (a .from + k) (v .loop .start) ≡ put (a .table .now) (a .from) (mapBelow (k + 1) f))
           (stored v) (v .loop .inv .0) all,
-      record {
-        size = listed-length _ _ _ _ (v .loop .inv .2) (omega (arith, v .before .pre)) ∙ v .before .pre .1 .0;
-        each = λ i l.
-            ap (λ t. at t i) (v .loop .inv .2)
-            ∙ at-front (counts v) _ i (omega (arith, length-mapBelow (v .loop .bus) f, all))
-            ∙ mapBelow-at f (v .loop .bus) (omega (arith, all));
-      },
+      (
+        done v all,
+        record {
+          size = listed-length _ _ _ _ (v .loop .inv .2) (omega (arith, v .before .pre)) ∙ v .before .pre .1 .0;
+          each = λ i l.
+              ap (λ t. at t i) (v .loop .inv .2)
+              ∙ at-front (counts v) _ i (omega (arith, length-mapBelow (v .loop .bus) f, all))
+              ∙ mapBelow-at f (v .loop .bus) (omega (arith, all));
+        },
+      ),
     )
 
 pub store-starts-spec : {M : Type 1} → statement M
@@ -126,5 +136,6 @@ store-starts-spec =
     (λ c. search needs)
     (λ c. search needs)
     slice-write-table-2
+    cast-result
     same-length
     returns)
