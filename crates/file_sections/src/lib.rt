@@ -1,4 +1,5 @@
-// The network file: where it has what, and whether its counts, its needs and the ends of its records are sound.
+// The network file: where it has what, whether its counts, its needs and the ends of its records are sound, and whether its records are in order.
+ghost use mathlib.Core.Bool.{_||_};
 ghost use mathlib.Core.List.{_++_};
 ghost use mathlib.Core.Path.{_≡_};
 ghost use Prim.Native.Nat.{_+_, _*_, _≤_, _<_};
@@ -9,6 +10,7 @@ ghost use Rattle.table_spec.specs.Holds.{needsInRange};
 ghost use Rattle.file_spec.specs.FileBytes.{wordAt, fileBusCount, needsEnd, needBytes, fileLineCount, fileEnd, records, firstEnd, secondEnd};
 ghost use Rattle.file_spec.specs.Sections.{busSectionCauses, lineCountCauses, missingCauses, endCauses, lineSectionCauses, counts, sectionsOutcome, twoBuses, soundEnds};
 ghost use Rattle.file_spec.specs.SoundSections.{SoundSections};
+ghost use Rattle.file_spec.specs.RecordOrder.{turned, falls, outOfOrder};
 ghost use Rattle.file_sections.specs.FileAnswers.{outcomeOfCount, outcomeOfReading};
 pub use network::Counts;
 use network::Network;
@@ -196,4 +198,38 @@ pub fn sound_ends(section: &[u8], n: usize, m: usize) -> bool
         k += 1;
     }
     true
+}
+
+// Whether record k names its higher bus first, or is below the one before it.
+fn misplaced(section: &[u8], k: usize) -> bool
+    requires { ⌜ 4 * k + 3 < length (now section) ⌝ }
+    ensures { λ b. ⌜ b ≡ (turned (now (section .entry)) k || falls (now (section .entry)) k) ⌝ }
+{
+    let ends = ends_of(section, k);
+    if ends.second < ends.first {
+        return true;
+    }
+    if k == 0 {
+        return false;
+    }
+    let before = ends_of(section, k - 1);
+    if ends.first == before.first {
+        return ends.second < before.second;
+    }
+    ends.first < before.first
+}
+
+// Whether one of m records does or is.
+pub fn out_of_order(section: &[u8], m: usize) -> bool
+    requires { ⌜ 4 * m ≤ length (now section) ⌝ }
+    ensures { λ b. ⌜ b ≡ outOfOrder m (now (section .entry)) ⌝ }
+{
+    let mut k = 0;
+    while k < m {
+        if misplaced(section, k) {
+            return true;
+        }
+        k += 1;
+    }
+    false
 }

@@ -6,6 +6,7 @@ use Prim.Native.Nat.{ℕ, suc}
 use Rattle.lists.specs.Lists.{at}
 use Rattle.lists.specs.Below.{anyBelow, sumBelow, joinBelow, listBelow}
 use Rattle.file_spec.specs.FileBytes.{wordAt}
+use Rattle.file_spec.specs.RecordOrder.{turned, pairBelow, falls, outOfOrder}
 use Rattle.file_spec.specs.Records.{joins, joined, neighbours, degreeTooHigh, repeats, pairCount}
 
 -- the record of a line from a to b
@@ -32,3 +33,13 @@ spokes m = joinBelow m (λ k. line 0 (suc k))
 too-high : (degreeTooHigh 24 23 (spokes 23) ≡ false) × (degreeTooHigh 25 24 (spokes 24) ≡ true) × (degreeTooHigh 24 24 (spokes 23 ++ line 23 0) ≡ false)
 unfolding spokes line degreeTooHigh neighbours joined joins wordAt at listBelow joinBelow anyBelow
 too-high = (refl, refl, refl)
+
+-- records in order: none; one; by first bus, though the second falls; by second; equal ones
+-- and not: turned; below by first bus; below by second, behind two that are in order
+ordered :
+    (map (outOfOrder 0) ([] ∷ []) ++ map (outOfOrder 1) (line 0 1 ∷ []) ++ map (outOfOrder 2) ((line 0 3 ++ line 1 2) ∷ (line 0 1 ++ line 0 2) ∷ (line 0 1 ++ line 0 1) ∷ [])
+    ≡ false ∷ false ∷ false ∷ false ∷ false ∷ [])
+    × (map (outOfOrder 1) (line 1 0 ∷ []) ++ map (outOfOrder 2) ((line 1 2 ++ line 0 3) ∷ (line 0 1 ++ line 2 1) ∷ []) ++ map (outOfOrder 3) ((line 0 1 ++ line 0 3 ++ line 0 2) ∷ [])
+    ≡ true ∷ true ∷ true ∷ true ∷ [])
+unfolding line outOfOrder turned falls pairBelow wordAt at anyBelow
+ordered = (refl, refl)

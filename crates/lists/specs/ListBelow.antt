@@ -1,20 +1,21 @@
 -- Laws of the numbers below a bound that pass a test: exactly those, each once, ascending.
-use mathlib.Core.Bool.{Bool, true, false, cond, _&&_}
+use mathlib.Core.Bool.{Bool, true, false, cond, _&&_, _||_, or-false}
 use mathlib.Core.List.{List, [], _∷_, _++_, append-nil}
 use mathlib.Core.Logic.{⊎-elim}
 use mathlib.Core.Path.{_≡_, refl, sym, ap, _∙_}
-use Prim.Native.Nat.{ℕ, zero, suc, _*_, _<_}
+use Prim.Native.Nat.{ℕ, zero, suc, _+_, _*_, _<_}
 use native.Mathlib.Nat.{not-suc-le-zero, mul-comm}
 use native.Mathlib.Omega.{arith}
 use lib.Dec.{eqb, ltb}
 use lib.ListN.{length, length-append, List·getD-append}
 use lib.Seq.{getD-at}
-use borrow.Author.Tests.{ltb-true, lt-ltb}
+use borrow.Author.Tests.{ltb-true, lt-ltb, eqb-true}
 use Rattle.lists.specs.Lists.{indicator, count, _∈_, has, at, Ascending}
 use Rattle.lists.specs.Below.{countBelow, joinBelow, listBelow}
-use Rattle.lists.specs.Tests.{split, passes, and-left, and-right}
+use Rattle.lists.specs.Tests.{split, passes, fails, and-left, and-right, eqb-comm}
 use Rattle.lists.specs.Sums.{indicator-and}
-use Rattle.lists.specs.Places.{in-at}
+use Rattle.lists.specs.Counts.{count-append}
+use Rattle.lists.specs.Places.{in-at, ascending-same}
 use Rattle.lists.specs.Loops.{last-or}
 use Rattle.lists.specs.SumsBelow.{sumBy-joinBelow, sumBelow-same, sumBelow-single}
 use Rattle.lists.specs.JoinBelow.{length-joinBelow, joinBelow-same}
@@ -66,3 +67,18 @@ pub listBelow-ascends : (n : ℕ) (p : ℕ → Bool) → Ascending (listBelow n 
 unfolding listBelow joinBelow
 listBelow-ascends zero p j k u v = absurd (not-suc-le-zero v)
 listBelow-ascends (suc n) p j k u v = ascends-more (listBelow n p) n (p n) (λ k l. listBelow-in n p k l .0) (listBelow-ascends n p) j k u v
+
+-- one number more passes, above all others: it stands behind them
+pub listBelow-more : (p : ℕ → Bool) (x n : ℕ) → x < n → ((j : ℕ) → j < n → p j ≡ true → j < x) → listBelow n (λ j. p j || eqb x j) ≡ listBelow n p ++ (x ∷ [])
+listBelow-more p x n h low =
+    ascending-same _ _ (listBelow-ascends n _)
+    (ascends-more (listBelow n p) x true (λ k l. let w = listBelow-in n p k l in low _ (w .0) (w .1)) (listBelow-ascends n p))
+    (λ y. count-listBelow y n (λ j. p j || eqb x j) ∙ agree y ∙ sym (count-append y (listBelow n p) (x ∷ []) ∙ ap (λ c. c + (indicator (eqb y x) + 0)) (count-listBelow y n p)))
+  where
+    agree : (y : ℕ) → indicator (ltb y n && (p y || eqb x y)) ≡ indicator (ltb y n && p y) + (indicator (eqb y x) + 0)
+    agree y =
+        split (eqb y x)
+        (λ e. let q : y ≡ x = eqb-true y x e in
+        let none : p y ≡ false = fails (p y) (λ t. omega (arith, q, low y (omega (arith, q)) t)) in
+        rw (e, eqb-comm x y, e, none, lt-ltb y n (omega (arith, q))))
+        (λ e. rw (e, eqb-comm x y, e, or-false (p y)) (omega arith))

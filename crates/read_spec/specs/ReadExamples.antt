@@ -10,6 +10,7 @@ use Rattle.table_spec.specs.Layout.{laid, tableOf}
 use Rattle.table_spec.specs.Holds.{within, needsInRange}
 use Rattle.file_spec.specs.FileBytes.{wordAt, needBytes, records}
 use Rattle.file_spec.specs.Sections.{endsBefore, goesOn, twoBuses, soundEnds}
+use Rattle.file_spec.specs.RecordOrder.{turned, pairBelow, falls, outOfOrder}
 use Rattle.file_spec.specs.Records.{joins, joined, neighbours, degreeTooHigh, repeats, pairCount}
 use Rattle.read_spec.specs.ReadOutcome.{readOutcome, fileTable, storedTable, tableAfter}
 
@@ -35,69 +36,70 @@ star n = file (suc n) (replicate (suc n) 1) n (joinBelow n (λ k. 0 ∷ 0 ∷ su
 
 -- 24 records that join a bus to 23 others: the last names the pair of the one before
 twiceJoined : List ℕ
-twiceJoined = file 24 (replicate 24 1) 24 (joinBelow 23 (λ k. 0 ∷ 0 ∷ suc k ∷ 0 ∷ []) ++ (23 ∷ 0 ∷ 0 ∷ 0 ∷ []))
+twiceJoined = file 24 (replicate 24 1) 24 (joinBelow 23 (λ k. 0 ∷ 0 ∷ suc k ∷ 0 ∷ []) ++ (0 ∷ 0 ∷ 23 ∷ 0 ∷ []))
 
 -- the tables, and an untouched tail
 
 path-table : tableAfter path (replicate 14 7) ≡ 3 ∷ 1 ∷ 1 ∷ 1 ∷ 0 ∷ 1 ∷ 3 ∷ 4 ∷ 1 ∷ 0 ∷ 2 ∷ 1 ∷ 7 ∷ 7 ∷ []
-unfolding needBytes records wordAt at endsBefore goesOn within needsInRange allBelow anyBelow sumBelow soundEnds twoBuses degreeTooHigh pairCount repeats neighbours listBelow joinBelow joined joins path three file storedTable fileTable tableOf laid mapBelow
+unfolding needBytes records wordAt at endsBefore goesOn within needsInRange allBelow anyBelow sumBelow soundEnds twoBuses outOfOrder turned falls pairBelow degreeTooHigh pairCount repeats neighbours listBelow joinBelow joined joins path three file storedTable fileTable tableOf laid mapBelow
 path-table = refl
 
--- records in any order, either end first: Path again
-turned-table : tableAfter (three 2 1 1 0) (replicate 12 7) ≡ tableAfter path (replicate 12 7)
-unfolding needBytes records wordAt at endsBefore goesOn within needsInRange allBelow anyBelow sumBelow soundEnds twoBuses degreeTooHigh pairCount repeats neighbours listBelow joinBelow joined joins path three file storedTable fileTable tableOf laid mapBelow
-turned-table = refl
-
--- the second record made 1, 0: one line, and bus 2 alone
-repeat-table : tableAfter (three 0 1 1 0) (replicate 11 7) ≡ 3 ∷ 1 ∷ 1 ∷ 1 ∷ 0 ∷ 1 ∷ 2 ∷ 2 ∷ 1 ∷ 0 ∷ 7 ∷ []
-unfolding needBytes records wordAt at endsBefore goesOn within needsInRange allBelow anyBelow sumBelow soundEnds twoBuses degreeTooHigh pairCount repeats neighbours listBelow joinBelow joined joins three file storedTable fileTable tableOf laid mapBelow
+-- the second record made 0, 1 as well: one line, and bus 2 alone
+repeat-table : tableAfter (three 0 1 0 1) (replicate 11 7) ≡ 3 ∷ 1 ∷ 1 ∷ 1 ∷ 0 ∷ 1 ∷ 2 ∷ 2 ∷ 1 ∷ 0 ∷ 7 ∷ []
+unfolding needBytes records wordAt at endsBefore goesOn within needsInRange allBelow anyBelow sumBelow soundEnds twoBuses outOfOrder turned falls pairBelow degreeTooHigh pairCount repeats neighbours listBelow joinBelow joined joins three file storedTable fileTable tableOf laid mapBelow
 repeat-table = refl
 
 -- one bus, no line, need 24
 alone-table : tableAfter (file 1 (24 ∷ []) 0 []) (replicate 5 7) ≡ 1 ∷ 24 ∷ 0 ∷ 0 ∷ 7 ∷ []
-unfolding needBytes records wordAt at endsBefore goesOn within needsInRange allBelow anyBelow sumBelow soundEnds twoBuses degreeTooHigh pairCount repeats neighbours listBelow joinBelow joined joins file storedTable fileTable tableOf laid mapBelow
+unfolding needBytes records wordAt at endsBefore goesOn within needsInRange allBelow anyBelow sumBelow soundEnds twoBuses outOfOrder turned falls pairBelow degreeTooHigh pairCount repeats neighbours listBelow joinBelow joined joins file storedTable fileTable tableOf laid mapBelow
 alone-table = refl
 
 -- one entry too few is lent: nothing changes
 short-table : tableAfter path (replicate 11 7) ≡ replicate 11 7
-unfolding needBytes records wordAt at endsBefore goesOn within needsInRange allBelow anyBelow sumBelow soundEnds twoBuses degreeTooHigh pairCount repeats neighbours listBelow joinBelow joined joins path three file
+unfolding needBytes records wordAt at endsBefore goesOn within needsInRange allBelow anyBelow sumBelow soundEnds twoBuses outOfOrder turned falls pairBelow degreeTooHigh pairCount repeats neighbours listBelow joinBelow joined joins path three file
 short-table = refl
 
 -- what is accepted: m counts different pairs
 
 accepted :
     map (λ f. readOutcome f 100)
-    (path ∷ star 23 ∷ file 2 (1 ∷ 1 ∷ []) 1 (0 ∷ 0 ∷ 1 ∷ 0 ∷ []) ∷ three 0 1 1 0 ∷ three 0 1 0 1 ∷ twiceJoined ∷ [])
+    (path ∷ star 23 ∷ file 2 (1 ∷ 1 ∷ []) 1 (0 ∷ 0 ∷ 1 ∷ 0 ∷ []) ∷ three 0 1 0 1 ∷ twiceJoined ∷ [])
     ≡ map (λ c. gives c)
     (
     record { buses = 3; lines = 2 }
     ∷ record { buses = 24; lines = 23 }
     ∷ record { buses = 2; lines = 1 }
     ∷ record { buses = 3; lines = 1 }
-    ∷ record { buses = 3; lines = 1 }
     ∷ record { buses = 24; lines = 23 }
     ∷ []
     )
-unfolding needBytes records wordAt at endsBefore goesOn within needsInRange allBelow anyBelow sumBelow soundEnds twoBuses degreeTooHigh pairCount repeats neighbours listBelow joinBelow joined joins path three star file twiceJoined
+unfolding needBytes records wordAt at endsBefore goesOn within needsInRange allBelow anyBelow sumBelow soundEnds twoBuses outOfOrder turned falls pairBelow degreeTooHigh pairCount repeats neighbours listBelow joinBelow joined joins path three star file twiceJoined
 accepted = refl
 
 -- so does the room that is asked for
-room : map (readOutcome (three 0 1 1 0)) (9 ∷ 10 ∷ []) ≡ refuses 10 ∷ gives (record { buses = 3; lines = 1 }) ∷ []
-unfolding needBytes records wordAt at endsBefore goesOn within needsInRange allBelow anyBelow sumBelow soundEnds twoBuses degreeTooHigh pairCount repeats neighbours listBelow joinBelow joined joins three file
+room : map (readOutcome (three 0 1 0 1)) (9 ∷ 10 ∷ []) ≡ refuses 10 ∷ gives (record { buses = 3; lines = 1 }) ∷ []
+unfolding needBytes records wordAt at endsBefore goesOn within needsInRange allBelow anyBelow sumBelow soundEnds twoBuses outOfOrder turned falls pairBelow degreeTooHigh pairCount repeats neighbours listBelow joinBelow joined joins three file
 room = refl
 
 -- the scope's cases: an empty file; Path with its last byte missing; n = 513 in two bytes; m = 5,889 with no records; Path with one byte more;
--- the second record made 1, 1 and 1, 3; a star of 25 buses; Path into 11 entries
+-- the second record made 1, 1 and 1, 3 and 1, 0; a star of 25 buses; Path into 11 entries
 refused :
     map (λ f. readOutcome f 11)
-    ([] ∷ take 14 path ∷ (1 ∷ 2 ∷ []) ∷ (1 ∷ 0 ∷ 1 ∷ 1 ∷ 23 ∷ []) ∷ (path ++ 0 ∷ []) ∷ three 0 1 1 1 ∷ three 0 1 1 3 ∷ star 24 ∷ path ∷ [])
-    ≡ map refuses (1 ∷ 1 ∷ 2 ∷ 4 ∷ 5 ∷ 6 ∷ 6 ∷ 7 ∷ 10 ∷ [])
-unfolding needBytes records wordAt at endsBefore goesOn within needsInRange allBelow anyBelow sumBelow soundEnds twoBuses degreeTooHigh pairCount repeats neighbours listBelow joinBelow joined joins path three star file
+    ([] ∷ take 14 path ∷ (1 ∷ 2 ∷ []) ∷ (1 ∷ 0 ∷ 1 ∷ 1 ∷ 23 ∷ []) ∷ (path ++ 0 ∷ []) ∷ three 0 1 1 1 ∷ three 0 1 1 3 ∷ three 0 1 1 0 ∷ star 24 ∷ path ∷ [])
+    ≡ map refuses (1 ∷ 1 ∷ 2 ∷ 4 ∷ 5 ∷ 6 ∷ 6 ∷ 15 ∷ 7 ∷ 10 ∷ [])
+unfolding needBytes records wordAt at endsBefore goesOn within needsInRange allBelow anyBelow sumBelow soundEnds twoBuses outOfOrder turned falls pairBelow degreeTooHigh pairCount repeats neighbours listBelow joinBelow joined joins path three star file
 refused = refl
 
--- of several causes the first, with no entry lent: a wrong end, though it stands last; a bus with 24 neighbours
+-- a record that is below the one before it by its first bus, and by its second; one turned round, though its first bus is no lower; the first turned
+misplaced : map (λ f. readOutcome f 100) (three 1 2 0 1 ∷ three 0 2 0 1 ∷ three 0 1 2 1 ∷ three 1 0 1 2 ∷ []) ≡ map refuses (15 ∷ 15 ∷ 15 ∷ 15 ∷ [])
+unfolding needBytes records wordAt at endsBefore goesOn within needsInRange allBelow anyBelow sumBelow soundEnds twoBuses outOfOrder turned falls pairBelow degreeTooHigh pairCount repeats neighbours listBelow joinBelow joined joins three file
+misplaced = refl
+
+-- of several causes the first, with no entry lent: a wrong end, though it stands behind a turned record; a fall, though a bus has 24 neighbours before
+-- it; a bus with 24 neighbours
 first-of-several :
-    map (λ f. readOutcome f 0) (file 25 (replicate 25 1) 25 (joinBelow 24 (λ k. 0 ∷ 0 ∷ suc k ∷ 0 ∷ []) ++ (0 ∷ 0 ∷ 25 ∷ 0 ∷ [])) ∷ star 24 ∷ [])
-    ≡ map refuses (6 ∷ 7 ∷ [])
-unfolding needBytes records wordAt at endsBefore goesOn within needsInRange allBelow anyBelow sumBelow soundEnds twoBuses degreeTooHigh pairCount repeats neighbours listBelow joinBelow joined joins star file
+    map (λ f. readOutcome f 0)
+    (three 1 0 1 3 ∷ file 25 (replicate 25 1) 25 (joinBelow 24 (λ k. 0 ∷ 0 ∷ suc k ∷ 0 ∷ []) ++ (0 ∷ 0 ∷ 1 ∷ 0 ∷ [])) ∷ star 24 ∷ [])
+    ≡ map refuses (6 ∷ 15 ∷ 7 ∷ [])
+unfolding needBytes records wordAt at endsBefore goesOn within needsInRange allBelow anyBelow sumBelow soundEnds twoBuses outOfOrder turned falls pairBelow degreeTooHigh pairCount repeats neighbours listBelow joinBelow joined joins three star file
 first-of-several = refl

@@ -7,18 +7,23 @@ use Prim.Native.Nat.{ℕ, _<_}
 use lib.Dec.{ltb}
 use lib.ListN.{length, drop}
 use Rattle.lists.specs.Lists.{has}
-use Rattle.refusals.specs.declared.Refusal.the-variants.{LineEnds, DegreeTooHigh, TableTooShort}
+use Rattle.refusals.specs.declared.Refusal.the-variants.{LineEnds, DegreeTooHigh, TableTooShort, OutOfOrder}
 use Rattle.refusals.specs.Outcomes.{Outcome, gives, refuses, Cause, _⇒_, outcome, valuesOr}
 use Rattle.table_spec.specs.Layout.{busCount, needs, row, lines, tableEntries, tableOf}
 use Rattle.table_spec.specs.Holds.{Holds}
 use Rattle.network.specs.declared.Counts.{Counts}
 use Rattle.file_spec.specs.FileBytes.{fileBusCount, needBytes, fileLineCount, records}
 use Rattle.file_spec.specs.Sections.{sectionCauses, soundEnds}
+use Rattle.file_spec.specs.RecordOrder.{outOfOrder}
 use Rattle.file_spec.specs.Records.{joined, neighbours, degreeTooHigh, pairCount, filePairCount}
 
 -- a record names a bus of n or above, or one bus twice
 abbrev pub endsCauses : ℕ → ℕ → List ℕ → List Cause
 endsCauses n m r = (not (soundEnds n m r) ⇒ LineEnds) ∷ []
+
+-- a record names its higher bus first, or is below the one before it
+abbrev pub orderCauses : ℕ → List ℕ → List Cause
+orderCauses m r = (outOfOrder m r ⇒ OutOfOrder) ∷ []
 
 -- a bus has too many different neighbours
 abbrev pub degreeCauses : ℕ → ℕ → List ℕ → List Cause
@@ -30,7 +35,7 @@ roomCauses n m lent = (ltb lent (tableEntries n m) ⇒ TableTooShort) ∷ []
 
 -- each over all records before the next; the table has a line for each different pair
 abbrev pub recordCauses : ℕ → ℕ → List ℕ → ℕ → List Cause
-recordCauses n m r lent = endsCauses n m r ++ degreeCauses n m r ++ roomCauses n (pairCount m r) lent
+recordCauses n m r lent = endsCauses n m r ++ orderCauses m r ++ degreeCauses n m r ++ roomCauses n (pairCount m r) lent
 
 -- Read checks in file order, then the records
 abbrev pub readCauses : List ℕ → ℕ → List Cause

@@ -19,7 +19,7 @@ TableDue cs q m rows t o t′ = Due cs (record { buses = length q; lines = m }) 
 abbrev pub RoomDue : List ℕ → ℕ → (ℕ → List ℕ) → List ℕ → Outcome Counts → List ℕ → Type 0
 RoomDue q m rows t o t′ = TableDue (roomCauses (length q) m (length t)) q m rows t o t′
 
--- the ends of m records r are sound
+-- m records r are sound and in order
 abbrev pub LinesDue : List ℕ → ℕ → List ℕ → List ℕ → Outcome Counts → List ℕ → Type 0
 LinesDue q m r t o t′ =
     TableDue (degreeCauses (length q) m r ++ roomCauses (length q) (pairCount m r) (length t)) q (pairCount m r) (neighbours (length q) m r) t o t′

@@ -17,6 +17,7 @@ pub use file_sections::Counts;
 pub use file_sections::Reading;
 use file_sections::judge;
 use file_sections::need_bytes;
+use file_sections::out_of_order;
 use file_sections::records;
 use file_sections::sound_ends;
 use network::Network;
@@ -81,6 +82,9 @@ fn read_records(needs: &[u8], section: &[u8], m: usize, table: &mut [u16]) -> Re
 {
     if !sound_ends(section, needs.len(), m) {
         return Reading::Refused(Refusal::LineEnds);
+    }
+    if out_of_order(section, m) {
+        return Reading::Refused(Refusal::OutOfOrder);
     }
     read_lines(needs, section, m, table)
 }

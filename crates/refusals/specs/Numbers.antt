@@ -1,9 +1,9 @@
--- The scope's number of each refusal: 1 to 9 because of the input, 10 to 14 because of the state lent. No refusal has number 8: a repeated pair had
--- it, until order 1 of the change requests.
+-- The number of each refusal: the scope's, 1 to 9 because of the input and 10 to 14 because of the state lent; then those that orders of the change
+-- requests add. No refusal has number 8: a repeated pair had it, until order 1.
 -- Definitions only.
 use Prim.Native.Nat.{ℕ}
 use Rattle.refusals.specs.declared.Refusal.{Refusal}
-use Rattle.refusals.specs.declared.Refusal.the-variants.{FileTooShort, BusCount, Need, LineCount, FileTooLong, LineEnds, DegreeTooHigh, NoDenominator, TableTooShort, NoNetwork, NumeratorsTooShort, NoSuchBus, TextTooShort}
+use Rattle.refusals.specs.declared.Refusal.the-variants.{FileTooShort, BusCount, Need, LineCount, FileTooLong, LineEnds, DegreeTooHigh, NoDenominator, TableTooShort, NoNetwork, NumeratorsTooShort, NoSuchBus, TextTooShort, OutOfOrder}
 
 abbrev pub numberOf : Refusal → ℕ
 numberOf FileTooShort = 1
@@ -19,3 +19,4 @@ numberOf NoNetwork = 11
 numberOf NumeratorsTooShort = 12
 numberOf NoSuchBus = 13
 numberOf TextTooShort = 14
+numberOf OutOfOrder = 15

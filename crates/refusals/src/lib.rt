@@ -29,6 +29,8 @@ pub enum Refusal {
     NoSuchBus,
     // Too few bytes are lent for the sheet line.
     TextTooShort,
+    // A record names its higher bus first, or is below the record before it.
+    OutOfOrder,
 }
 
 impl Refusal {
@@ -50,6 +52,7 @@ impl Refusal {
             Refusal::NumeratorsTooShort => 12,
             Refusal::NoSuchBus => 13,
             Refusal::TextTooShort => 14,
+            Refusal::OutOfOrder => 15,
         }
     }
 }

@@ -57,7 +57,7 @@ path k = file (1 ∷ k ∷ 1 ∷ []) ((0, 1) ∷ (1, 2) ∷ [])
 
 -- a line between any two of three buses, needs k
 unfoldable pub triangle : ℕ → List ℕ
-triangle k = file (k ∷ k ∷ k ∷ []) ((0, 1) ∷ (1, 2) ∷ (2, 0) ∷ [])
+triangle k = file (k ∷ k ∷ k ∷ []) ((0, 1) ∷ (0, 2) ∷ (1, 2) ∷ [])
 
 -- ---- the table
 

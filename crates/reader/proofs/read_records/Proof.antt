@@ -1,5 +1,6 @@
 -- `reader::read_records` meets its contract.
 use borrow.Author.Needs.{needs}
+use mathlib.Core.Path.{sym, _∙_}
 use Rattle.lists.specs.Tests.{negated, passed}
 use Rattle.refusals.specs.Due.{stop, pass}
 use Rattle.reader.proofs.read_records.Statement.{statement}
@@ -8,19 +9,25 @@ use Rattle.reader.proofs.read_records.Tie as tie
 returns : tie.Need-returns
 returns c = stop (negated (c .before .sound-ends .ensures) (c .if1 .taken))
 
+returns-2 : tie.Need-returns-2
+returns-2 c =
+    let e = c .before .before in
+    pass (negated (e .before .sound-ends .ensures) (e .if1 .left)) (stop (sym (c .before .out-of-order .ensures) ∙ c .if2 .taken))
+
 read-lines-requires : tie.Need-read-lines-requires
 read-lines-requires c κs =
-    let e = c .before in
+    let e = c .before .before .before in
     let h = e .before .before .before .before .before .pre in
     (h .2, record { buses = h .0; lines = h .1; sound = passed (e .before .sound-ends .ensures) (e .if1 .left) })
 
-returns-2 : tie.Need-returns-2
-returns-2 c =
+returns-3 : tie.Need-returns-3
+returns-3 c =
     let p = c .before .before in
-    let e = p .before .before in
-    pass (negated (e .before .sound-ends .ensures) (e .if1 .left)) (p .read-lines .ensures)
+    let d = p .before .before in
+    let e = d .before .before in
+    pass (negated (e .before .sound-ends .ensures) (e .if1 .left)) (pass (sym (d .before .out-of-order .ensures) ∙ d .if2 .left) (p .read-lines .ensures))
 
 pub read-records-spec : {M : Type 1} → statement M
 read-records-spec =
     tie.close
-    (tie.spec (λ c κs. search needs) returns read-lines-requires (λ c. search needs) returns-2)
+    (tie.spec (λ c κs. search needs) returns (λ c κs. search needs) returns-2 read-lines-requires (λ c. search needs) returns-3)

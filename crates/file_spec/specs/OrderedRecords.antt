@@ -1,0 +1,194 @@
+-- Records in order: a pair that is named again stands next to its like, and every neighbour that a record gives a bus is above those that the
+-- records before it gave, so that rows only grow at their ends.
+use mathlib.Core.Bool.{true, false, cond, _&&_, _||_, or-false, and-false, and-true}
+use mathlib.Core.List.{List, [], _∷_, _++_}
+use mathlib.Core.Logic.{⊎-elim}
+use mathlib.Core.Path.{_≡_, sym, ap, _∙_}
+use Prim.Native.Nat.{ℕ, zero, suc, _+_, _-_, _*_, _≤_, _<_}
+use native.Mathlib.Omega.{arith}
+use native.Mathlib.Nat.{not-suc-le-zero}
+use borrow.Author.Tests.{ltb-false, eqb-true, eqb-false, eq-eqb, ne-eqb, lt-ltb}
+use lib.Dec.{ltb, eqb}
+use Rattle.lists.specs.Below.{listBelow}
+use Rattle.lists.specs.Tests.{split, fails, never-both, and-left, and-right, or-none, or-cases, eqb-self, eqb-comm}
+use Rattle.lists.specs.Loops.{last-or, anyBelow-at, anyBelow-by, anyBelow-none}
+use Rattle.lists.specs.ListBelow.{listBelow-same, listBelow-more}
+use Rattle.table_spec.specs.Limits.{maxBuses, maxLines}
+use Rattle.file_spec.specs.FileBytes.{firstEnd, secondEnd}
+use Rattle.file_spec.specs.Sections.{soundEnds}
+use Rattle.file_spec.specs.SoundSections.{SoundEnds, ends-facts}
+use Rattle.file_spec.specs.RecordOrder.{turned, pairBelow, falls, outOfOrder}
+use Rattle.file_spec.specs.Records.{joins, joined, neighbours, repeats}
+use Rattle.file_spec.specs.RecordPairs.{joined-next}
+
+-- a pair that is not below another
+pub pair-facts : (a b c d : ℕ) → pairBelow a b c d ≡ false → (c ≤ a) × (a ≡ c → d ≤ b)
+unfolding pairBelow
+pair-facts a b c d h =
+    let z = or-none (ltb a c) (eqb a c && ltb b d) h in
+    (ltb-false a c (z .0), λ e. ltb-false b d (fails (ltb b d) (λ t. never-both (rw (eq-eqb a c e) t) (z .1))))
+
+-- a record that has the ends of an earlier one names its pair again
+pub repeats-by : (r : List ℕ) (i k : ℕ) → i < k → firstEnd r i ≡ firstEnd r k → secondEnd r i ≡ secondEnd r k → repeats r k ≡ true
+unfolding repeats joined joins
+repeats-by r i k l e f =
+    anyBelow-by (joins r (firstEnd r k) (secondEnd r k)) k i l (rw (eq-eqb (firstEnd r i) (firstEnd r k) e, eq-eqb (secondEnd r i) (secondEnd r k) f))
+
+-- m records of n buses, whose ends are sound and which are in order
+pub record OrderedRecords (n m : ℕ) (r : List ℕ) : Type 0 where
+  pub buses : n ≤ maxBuses
+  pub lines : m ≤ maxLines
+  pub sound : soundEnds n m r ≡ true
+  pub order : outOfOrder m r ≡ false
+
+module _ {n m : ℕ} {r : List ℕ} (g : OrderedRecords n m r) where
+  pub ends : SoundEnds n m r
+  ends = ends-facts n m r (g .sound)
+
+  -- the lower bus stands first
+  pub lower-first : (k : ℕ) → k < m → firstEnd r k < secondEnd r k
+  unfolding outOfOrder turned
+  lower-first k l =
+      let z = or-none (turned r k) (falls r k) (anyBelow-none (λ k. turned r k || falls r k) m (g .order) l) in
+      let d : firstEnd r k ≡ secondEnd r k → ⊥ = ends k l .2 in
+      omega (arith, d, ltb-false (secondEnd r k) (firstEnd r k) (z .0))
+
+  -- a record as one number, by which records ascend
+  rank : ℕ → ℕ
+  rank k = firstEnd r k * maxBuses + secondEnd r k
+
+  rank-next : (k : ℕ) → 0 < k → k < m → rank (k - 1) ≤ rank k
+  unfolding outOfOrder falls rank
+  rank-next k l b =
+      let a = firstEnd r k in
+      let c = firstEnd r (k - 1) in
+      let z = or-none (turned r k) (falls r k) (anyBelow-none (λ k. turned r k || falls r k) m (g .order) b) in
+      let f = pair-facts a (secondEnd r k) c (secondEnd r (k - 1)) (rw (lt-ltb 0 k l) at (z .1)) in
+      split (eqb a c)
+      (λ e. let q = eqb-true a c e in omega (arith, q, f .1 q))
+      (λ e. let d : a ≡ c → ⊥ = eqb-false a c e in omega (arith, d, f .0, ends (k - 1) (omega arith) .1, g .buses))
+
+  rank-grows : (i k : ℕ) → i ≤ k → k < m → rank i ≤ rank k
+  rank-grows i zero l b = let e : i ≡ 0 = omega arith in rw e (omega arith)
+  rank-grows i (suc k) l b =
+      let h : i < suc (suc k) = omega arith in
+      let e : suc k - 1 ≡ k = omega arith in
+      ⊎-elim (λ q. rw q (omega arith)) (λ j. omega (arith, rank-grows i k (omega arith) (omega arith), rw e at (rank-next (suc k) (omega arith) b))) (last-or h)
+
+  -- record i stands before record k: its first bus is no higher, nor its second where the first are equal
+  before : (i k : ℕ) → i < k → k < m → (firstEnd r i ≤ firstEnd r k) × (firstEnd r i ≡ firstEnd r k → secondEnd r i ≤ secondEnd r k)
+  unfolding rank
+  before i k l b =
+      let h = rank-grows i k (omega arith) b in
+      let x = ends i (omega arith) .1 in
+      let y = ends k b .1 in
+      (omega (arith, h, x, y, g .buses), λ e. omega (arith, h, e))
+
+  -- and where it names the same pair, its ends are the same, since the lower bus stands first in both
+  earlier : (k : ℕ) → k < m → repeats r k ≡ true → (i : ℕ) × (i < k) × (firstEnd r i ≡ firstEnd r k) × (secondEnd r i ≡ secondEnd r k)
+  unfolding repeats joined joins
+  earlier k b h =
+      let a = firstEnd r k in
+      let c = secondEnd r k in
+      let w = anyBelow-at (joins r a c) k h in
+      let i = w .0 in
+      let x = firstEnd r i in
+      let y = secondEnd r i in
+      ⊎-elim
+      (λ t. (i, w .1, eqb-true x a (and-left (eqb x a) (eqb y c) t), eqb-true y c (and-right (eqb x a) (eqb y c) t)))
+      (λ t. absurd
+      (omega (
+        arith,
+        eqb-true x c (and-left (eqb x c) (eqb y a) t),
+        eqb-true y a (and-right (eqb x c) (eqb y a) t),
+        lower-first i (omega (arith, w .1)),
+        lower-first k b,
+      )))
+      (or-cases (eqb x a && eqb y c) (eqb x c && eqb y a) (w .2))
+
+  -- where record k names a pair again, the one before it does
+  pub repeats-facts : (k : ℕ) → k < m → repeats r k ≡ true → (0 < k) × (firstEnd r (k - 1) ≡ firstEnd r k) × (secondEnd r (k - 1) ≡ secondEnd r k)
+  unfolding rank
+  repeats-facts k b h =
+      let w = earlier k b h in
+      let i = w .0 in
+      let low = rank-grows i (k - 1) (omega (arith, w .1)) (omega arith) in
+      let high = rank-grows (k - 1) k (omega arith) b in
+      let y = ends (k - 1) (omega arith) .1 in
+      let z = ends k b .1 in
+      (omega (arith, w .1), omega (arith, low, high, w .2, w .3, y, z, g .buses), omega (arith, low, high, w .2, w .3, y, z, g .buses))
+
+  -- record k, which names a new pair
+  module _ (k : ℕ) (b : k < m) (new : repeats r k ≡ false) where
+    abbrev a : ℕ
+    a = firstEnd r k
+
+    abbrev c : ℕ
+    c = secondEnd r k
+
+    -- the neighbours that earlier records give its first bus are below its second
+    first-low : (j : ℕ) → joined k r a j ≡ true → j < c
+    unfolding joined joins
+    first-low j h =
+        let w = anyBelow-at (joins r a j) k h in
+        let i = w .0 in
+        let x = firstEnd r i in
+        let y = secondEnd r i in
+        let p = before i k (w .1) b in
+        ⊎-elim
+        (λ t. let e = eqb-true x a (and-left (eqb x a) (eqb y j) t) in
+        let d : y ≡ c → ⊥ = λ q. never-both (repeats-by r i k (w .1) e q) new in
+        omega (arith, eqb-true y j (and-right (eqb x a) (eqb y j) t), p .1 e, d))
+        (λ t. omega (arith, eqb-true x j (and-left (eqb x j) (eqb y a) t), p .0, lower-first k b))
+        (or-cases (eqb x a && eqb y j) (eqb x j && eqb y a) (w .2))
+
+    -- and those that they give its second are below its first
+    second-low : (j : ℕ) → joined k r c j ≡ true → j < a
+    unfolding joined joins
+    second-low j h =
+        let w = anyBelow-at (joins r c j) k h in
+        let i = w .0 in
+        let x = firstEnd r i in
+        let y = secondEnd r i in
+        let p = before i k (w .1) b in
+        ⊎-elim
+        (λ t. absurd (omega (arith, eqb-true x c (and-left (eqb x c) (eqb y j) t), p .0, lower-first k b)))
+        (λ t. let e = eqb-true y c (and-right (eqb x j) (eqb y c) t) in
+        let d : x ≡ a → ⊥ = λ q. never-both (repeats-by r i k (w .1) q e) new in
+        omega (arith, eqb-true x j (and-left (eqb x j) (eqb y c) t), p .0, d))
+        (or-cases (eqb x c && eqb y j) (eqb x j && eqb y c) (w .2))
+
+    apart : eqb c a ≡ false
+    apart = ne-eqb c a (omega (arith, lower-first k b))
+
+    -- so that each of the two goes behind the other's neighbours, and no other row changes
+    row-next : (i : ℕ) → neighbours n (k + 1) r i ≡ listBelow n (λ j. joined k r i j || joins r i j k)
+    unfolding neighbours
+    row-next i = listBelow-same _ _ n (λ j l. joined-next k r i j)
+
+    first-row : neighbours n (k + 1) r a ≡ neighbours n k r a ++ (c ∷ [])
+    unfolding neighbours joins
+    first-row =
+        row-next a
+        ∙ listBelow-same _ _ n (λ j l. rw (eqb-self a, apart, and-false (eqb a j), or-false (eqb c j)))
+        ∙ listBelow-more (joined k r a) c n (ends k b .1) (λ j l. first-low j)
+
+    second-row : neighbours n (k + 1) r c ≡ neighbours n k r c ++ (a ∷ [])
+    unfolding neighbours joins
+    second-row =
+        row-next c
+        ∙ listBelow-same _ _ n (λ j l. rw (eqb-comm a c, apart, eqb-self c, and-true (eqb a j)))
+        ∙ listBelow-more (joined k r c) a n (ends k b .0) (λ j l. second-low j)
+
+    other-row : (i : ℕ) → eqb a i ≡ false → eqb c i ≡ false → neighbours n (k + 1) r i ≡ neighbours n k r i
+    unfolding neighbours joins
+    other-row i e f = row-next i ∙ listBelow-same _ _ n (λ j l. rw (e, f, and-false (eqb a j), or-false (joined k r i j)))
+
+    pub rows-grow : (i : ℕ) → let one = cond (eqb a i) (neighbours n k r i ++ (c ∷ [])) (neighbours n k r i) in
+        cond (eqb c i) (one ++ (a ∷ [])) one ≡ neighbours n (k + 1) r i
+    rows-grow i =
+        split (eqb a i)
+        (λ e. let q : a ≡ i = eqb-true a i e in rw (← q) (rw (eqb-self a, apart) (sym first-row)))
+        (λ e. split (eqb c i)
+        (λ f. let q : c ≡ i = eqb-true c i f in rw (e, f) (rw (← q) (sym second-row)))
+        (λ f. rw (e, f) (sym (other-row i e f))))
