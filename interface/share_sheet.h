@@ -28,6 +28,7 @@
     12  too few entries are lent for the numerators
     13  the network does not have the bus, or the sheet does not have the line
     14  too few bytes are lent for the text
+    15  the first bus of a record is above its second, or a record is below the one before it
 
    No call allocates memory or keeps anything for the next one. share_sheet_whole takes some 30 KB
    of stack, share_sheet_read some 25, each other call less than 8. Calls may run at the same time,
@@ -44,11 +45,12 @@ extern "C" {
 #endif
 
 /* Reads a network file: stores its line table at the front of `table` and gives the counts of
-   buses and of lines, n and m. Records of the same two buses, in either order, are parallel
-   circuits and make one line, so m counts different pairs. The table takes 2n + 2 + 2m entries;
-   later ones are left as they were. Refused with 1 to 7 because of the file, then with 10 if
-   `table` is shorter than that. The counts are judged in file order (4 limits the records), and
-   after them all records for 6, then all for 7. */
+   buses and of lines, n and m. Each record names its lower bus first, and records ascend by first
+   bus, then by second. Equal records are parallel circuits and make one line, so m counts
+   different pairs. The table takes 2n + 2 + 2m entries; later ones are left as they were. Refused
+   with 1 to 7 and 15 because of the file, then with 10 if `table` is shorter than that. The counts
+   are judged in file order (4 limits the records), and after them all records for 6, then all for
+   15, then all for 7. */
 uint32_t share_sheet_read(const uint8_t *file, size_t file_len, uint16_t *table, size_t table_len,
                           size_t *buses, size_t *lines);
 

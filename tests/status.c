@@ -4,11 +4,12 @@
 
 #include "share_sheet.h"
 
-/* Path, and its table with a wrong last entry, which holds no network; and two parallel circuits
-   between buses 0 and 1, one of them named from its other end */
+/* Path, and its table with a wrong last entry, which holds no network; two parallel circuits
+   between buses 0 and 1; and a second record that names its higher bus first */
 static const uint8_t file[15] = {3, 0, 1, 1, 1, 2, 0, 0, 0, 1, 0, 1, 0, 2, 0};
 static const uint16_t none[12] = {3, 1, 1, 1, 0, 1, 3, 4, 1, 0, 2, 0};
-static const uint8_t parallel[15] = {3, 0, 1, 1, 1, 2, 0, 0, 0, 1, 0, 1, 0, 0, 0};
+static const uint8_t parallel[15] = {3, 0, 1, 1, 1, 2, 0, 0, 0, 1, 0, 0, 0, 1, 0};
+static const uint8_t turned[15] = {3, 0, 1, 1, 1, 2, 0, 0, 0, 1, 0, 1, 0, 0, 0};
 
 static int wrong = 0;
 
@@ -45,6 +46,7 @@ int main(void)
     EXPECT(share_sheet_line(table, 12, 1, text, 1, &a), 14);
     EXPECT(share_sheet_whole(table, 12, text, 64, &a), 0);
     EXPECT(share_sheet_whole(table, 12, text, 58, &a), 14);
+    EXPECT(share_sheet_read(turned, 15, table, 12, &a, &b), 15);
     EXPECT(share_sheet_read(parallel, 15, table, 9, &a, &b), 10);
     EXPECT(share_sheet_read(parallel, 15, table, 10, &a, &b), 0);
     EXPECT((uint32_t)a, 3);

@@ -124,14 +124,16 @@ pub fn limits() -> Limits {
 
 /// Reads a network file: stores its line table at the front of `table`, and gives the counts.
 ///
-/// Records of the same two buses, in either order, are parallel circuits and make one line. A
-/// network of n buses and m lines takes 2n + 2 + 2m entries; later ones are left as they were.
+/// Each record names its lower bus first, and records ascend by first bus, then by second. Equal
+/// records are parallel circuits and make one line. A network of n buses and m lines takes
+/// 2n + 2 + 2m entries; later ones are left as they were.
+///
 /// Refused because of the file with [`FileTooShort`](Refusal::FileTooShort),
 /// [`BusCount`](Refusal::BusCount), [`Need`](Refusal::Need), [`LineCount`](Refusal::LineCount),
 /// which limits the records, or [`FileTooLong`](Refusal::FileTooLong), in file order; then, each
-/// over all records before the next, with [`LineEnds`](Refusal::LineEnds) or
-/// [`DegreeTooHigh`](Refusal::DegreeTooHigh); then with [`TableTooShort`](Refusal::TableTooShort).
-/// A refused call leaves the network that `table` held.
+/// over all records before the next, with [`LineEnds`](Refusal::LineEnds),
+/// [`OutOfOrder`](Refusal::OutOfOrder) or [`DegreeTooHigh`](Refusal::DegreeTooHigh); then with
+/// [`TableTooShort`](Refusal::TableTooShort). A refused call leaves the network that `table` held.
 ///
 /// ```
 /// use share_sheet::{read, Refusal};
@@ -145,11 +147,15 @@ pub fn limits() -> Limits {
 ///
 /// assert_eq!(read(&file, &mut table[..11]), Err(Refusal::TableTooShort));
 ///
-/// // two circuits between buses 0 and 1, named 0, 1 and 1, 0; bus 2 has no line
-/// let parallel = [3, 0, 1, 1, 1, 2, 0, 0, 0, 1, 0, 1, 0, 0, 0];
+/// // two circuits between buses 0 and 1, each a record 0, 1; bus 2 has no line
+/// let parallel = [3, 0, 1, 1, 1, 2, 0, 0, 0, 1, 0, 0, 0, 1, 0];
 /// let counts = read(&parallel, &mut table)?;
 /// assert_eq!((counts.buses, counts.lines), (3, 1));
 /// assert_eq!(table[..10], [3, 1, 1, 1, 0, 1, 2, 2, 1, 0]);
+///
+/// // the second record names its higher bus first: 1, 0
+/// let turned = [3, 0, 1, 1, 1, 2, 0, 0, 0, 1, 0, 1, 0, 0, 0];
+/// assert_eq!(read(&turned, &mut table), Err(Refusal::OutOfOrder));
 /// # Ok::<(), Refusal>(())
 /// ```
 pub fn read(file: &[u8], table: &mut [u16]) -> Result<Counts, Refusal> {

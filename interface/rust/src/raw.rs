@@ -118,9 +118,12 @@ mod tests {
         assert_eq!(read(&wrong_end, &mut table), (6, A, B));
         assert_eq!(read(&PATH, &mut table[..11]), (10, A, B));
         assert_eq!(table, TABLE);
-        // the pair of the first record again, turned round
+        // the pair of the first record again, turned round and as it stands
+        let mut turned = PATH;
+        turned[13] = 0;
+        assert_eq!(read(&turned, &mut table), (15, A, B));
         let mut repeat = PATH;
-        repeat[13] = 0;
+        repeat.copy_within(7..11, 11);
         assert_eq!(read(&repeat, &mut table[..9]), (10, A, B));
         assert_eq!(table, TABLE);
         assert_eq!(read(&repeat, &mut table), (0, 3, 1));

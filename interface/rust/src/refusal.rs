@@ -45,6 +45,8 @@ pub enum Refusal {
     NoSuchBus,
     /// Too few bytes are lent for the text.
     TextTooShort,
+    /// The first bus of a record is above its second, or a record is below the one before it.
+    OutOfOrder,
 }
 
 impl Refusal {
@@ -79,6 +81,10 @@ impl Refusal {
                 "the network does not have the bus, or the sheet does not have the line"
             }
             Refusal::TextTooShort => "too few bytes are lent for the text",
+            Refusal::OutOfOrder => {
+                "the first bus of a record is above its second, or a record is below the one \
+                 before it"
+            }
         }
     }
 }
@@ -108,6 +114,7 @@ pub(crate) fn accepted(status: u32) -> Result<(), Refusal> {
         12 => Refusal::NumeratorsTooShort,
         13 => Refusal::NoSuchBus,
         14 => Refusal::TextTooShort,
+        15 => Refusal::OutOfOrder,
         _ => panic!("share_sheet_c returned {status}, which stands for no refusal"),
     })
 }
@@ -121,7 +128,7 @@ mod tests {
     fn every_number_has_a_refusal_and_words_of_its_own() {
         assert_eq!(accepted(0), Ok(()));
         let mut words = HashSet::new();
-        for number in (1..=14).filter(|&number| number != 8) {
+        for number in (1..=15).filter(|&number| number != 8) {
             let refused = accepted(number).unwrap_err();
             assert_eq!(u32::from(refused.number()), number);
             assert!(words.insert(refused.words()), "{refused}");
@@ -130,9 +137,9 @@ mod tests {
     }
 
     #[test]
-    #[should_panic(expected = "returned 15")]
+    #[should_panic(expected = "returned 16")]
     fn an_unknown_number_is_no_refusal() {
-        let _ = accepted(15);
+        let _ = accepted(16);
     }
 
     #[test]

@@ -1,4 +1,4 @@
-//! The bench cases of the scope, starred ones included, and of order 1, through the boundary.
+//! The bench cases of the scope, starred ones included, and of orders 1 and 2, through the boundary.
 
 use share_sheet::{
     cancel, degree, limits, read, row, share, shares, sheet_line, whole_sheet, Counts, Fraction,
@@ -134,12 +134,75 @@ fn records() {
     refuses(&file(&[1; 3], &[(0, 1), (1, 3)]), 6);
     // a repeat early and a wrong end late
     refuses(&file(&[1; 3], &[(0, 1), (1, 0), (1, 3)]), 6);
+    refuses(&file(&[1; 3], &[(0, 1), (1, 0)]), 15);
 }
 
-/// Records of one pair, in either direction, are one line.
+/// The lower bus comes first, and records ascend by first bus, then by second.
+#[test]
+fn order_of_records() {
+    // by first bus, though the second is lower, and by second
+    let lines = [(0, 3), (1, 2), (1, 3)];
+    assert_eq!(table(&file(&[1; 4], &lines)), [4, 1, 1, 1, 1, 0, 1, 3, 4, 6, 3, 2, 3, 1, 0, 1]);
+    refuses(&file(&[1; 4], &[(1, 2), (0, 3), (1, 3)]), 15);
+    refuses(&file(&[1; 4], &[(0, 3), (1, 3), (1, 2)]), 15);
+    refuses(&file(&[1; 4], &[(1, 3), (1, 2), (0, 3)]), 15);
+    // the higher bus first, where records ascend as they stand
+    refuses(&file(&[1; 4], &[(3, 0)]), 15);
+    refuses(&file(&[1; 4], &[(1, 0), (1, 2), (1, 3)]), 15);
+    refuses(&file(&[1; 4], &[(0, 3), (1, 2), (3, 1)]), 15);
+    // equal records together and apart
+    assert_eq!(table(&file(&[1; 3], &[(0, 1), (0, 1), (1, 2), (1, 2)])), PATH_TABLE);
+    refuses(&file(&[1; 3], &[(0, 1), (1, 2), (0, 1)]), 15);
+    refuses(&file(&[1; 3], &[(0, 1), (1, 2), (0, 1), (1, 2)]), 15);
+    // by numbers, and not by their bytes, of which the low one stands in front
+    let high = [(0, 2), (0, 255), (0, 256), (1, 257), (2, 3), (255, 256), (256, 258), (257, 258)];
+    assert_eq!(degree(&table(&file(&[1; 512], &high)), 258), Ok(2));
+    refuses(&file(&[1; 512], &[(0, 256), (0, 2)]), 15);
+    refuses(&file(&[1; 512], &[(256, 258), (2, 3)]), 15);
+    refuses(&file(&[1; 512], &[(256, 2)]), 15);
+}
+
+/// One record out of order is found wherever it stands: two that are swapped, and one turned.
+#[test]
+fn order_of_each_record() {
+    let chain: Vec<_> = (0..99).map(|bus| (bus, bus + 1)).collect();
+    assert!(read(&file(&[1; 100], &chain), &mut [0; 400]).is_ok());
+    for at in 0..chain.len() {
+        if at > 0 {
+            let mut swapped = chain.clone();
+            swapped.swap(at - 1, at);
+            refuses(&file(&[1; 100], &swapped), 15);
+        }
+        let mut turned = chain.clone();
+        turned[at] = (chain[at].1, chain[at].0);
+        refuses(&file(&[1; 100], &turned), 15);
+    }
+}
+
+/// Order is judged over all records after 6 and before 7.
+#[test]
+fn order_among_the_causes() {
+    refuses(&file(&[1; 3], &[(1, 2), (0, 1), (1, 3)]), 6);
+    refuses(&file(&[1; 3], &[(1, 3), (1, 2), (0, 1)]), 6);
+    refuses(&file(&[1; 3], &[(1, 1), (1, 2), (0, 1)]), 6);
+    // a wrong end is told where it is itself out of order
+    refuses(&file(&[1; 3], &[(3, 0)]), 6);
+    refuses(&file(&[1; 3], &[(0, 1), (0, 0)]), 6);
+
+    // bus 0 with 24 neighbours, and a record out of order behind or before
+    let star: Vec<_> = (1..25).map(|leaf| (0, leaf)).collect();
+    refuses(&file(&[1; 25], &star), 7);
+    refuses(&file(&[1; 25], &[&star[..], &[(1, 2)]].concat()), 7);
+    refuses(&file(&[1; 25], &[&star[..], &[(2, 1)]].concat()), 15);
+    refuses(&file(&[1; 25], &[&star[..], &[(0, 1)]].concat()), 15);
+    refuses(&file(&[1; 25], &[&[(1, 2)], &star[..]].concat()), 15);
+    refuses(&file(&[1; 25], &[&[(1, 0)], &star[..]].concat()), 15);
+}
+
+/// Equal records are one line.
 #[test]
 fn parallel_circuits() {
-    let twice = file(&[1; 3], &[(0, 1), (1, 0)]);
+    let twice = file(&[1; 3], &[(0, 1), (0, 1)]);
     let mut lent = [7; 12];
     assert_eq!(read(&twice, &mut lent[..9]), Err(Refusal::TableTooShort));
     assert_eq!(lent, [7; 12]);
@@ -147,7 +210,7 @@ fn parallel_circuits() {
     assert_eq!(lent, [3, 1, 1, 1, 0, 1, 2, 2, 1, 0, 7, 7]);
     scores(&twice, 2, &[2, 2, 2]);
 
-    let path_in_many = [(1, 2), (1, 0), (1, 2), (2, 1), (0, 1), (1, 0), (2, 1)];
+    let path_in_many = [(0, 1), (0, 1), (0, 1), (1, 2), (1, 2), (1, 2), (1, 2)];
     assert_eq!(table(&file(&[1; 3], &path_in_many)), PATH_TABLE);
     scores(&file(&[1, 2, 1], &path_in_many), 6, &[4, 10, 4]);
 }
@@ -155,15 +218,16 @@ fn parallel_circuits() {
 /// 7 counts different neighbours.
 #[test]
 fn parallel_circuits_at_one_bus() {
+    let twice: Vec<_> = (1..24).flat_map(|leaf| [(0, leaf), (0, leaf)]).collect();
+    assert_eq!(table(&file(&[1; 24], &twice)), table(&star(24)));
+    assert_eq!(table(&file(&[1; 24], &twice[1..])), table(&star(24)));
+    // the last pair once more: 24 records, then 25, that name bus 0
     let mut records: Vec<_> = (1..24).map(|leaf| (0, leaf)).collect();
-    records.extend([(0, 23), (1, 0)]);
-    for count in [24, 25] {
-        let star_in_more = file(&[1; 24], &records[..count]);
-        assert_eq!(table(&star_in_more), table(&star(24)));
+    for _ in 0..2 {
+        records.push((0, 23));
+        assert_eq!(table(&file(&[1; 24], &records)), table(&star(24)));
     }
-    records.extend((1..24).map(|leaf| (leaf, 0)));
-    assert_eq!(table(&file(&[1; 24], &records)), table(&star(24)));
-    records.push((24, 0));
+    records.push((0, 24));
     refuses(&file(&[1; 25], &records), 7);
     records.push((0, 25));
     refuses(&file(&[1; 25], &records), 6);
@@ -172,18 +236,18 @@ fn parallel_circuits_at_one_bus() {
 /// 4 counts records, 10 different pairs.
 #[test]
 fn parallel_circuits_of_one_pair() {
-    for other in [(0, 1), (1, 0)] {
-        let mut records = vec![(0, 1); 5_888];
-        records[1..].fill(other);
-        let most = file(&[1; 2], &records);
-        let mut lent = [7; 10];
-        assert_eq!(read(&most, &mut lent[..7]), Err(Refusal::TableTooShort));
-        assert_eq!(lent, [7; 10]);
-        assert_eq!(read(&most, &mut lent[..8]), Ok(Counts { buses: 2, lines: 1 }));
-        assert_eq!(lent, [2, 1, 1, 0, 1, 2, 1, 0, 7, 7]);
-        records.push(other);
-        refuses(&file(&[1; 2], &records), 4);
-    }
+    let mut records = vec![(0, 1); 5_888];
+    let most = file(&[1; 2], &records);
+    let mut lent = [7; 10];
+    assert_eq!(read(&most, &mut lent[..7]), Err(Refusal::TableTooShort));
+    assert_eq!(lent, [7; 10]);
+    assert_eq!(read(&most, &mut lent[..8]), Ok(Counts { buses: 2, lines: 1 }));
+    assert_eq!(lent, [2, 1, 1, 0, 1, 2, 1, 0, 7, 7]);
+    // the last of them turned round
+    records[5_887] = (1, 0);
+    refuses(&file(&[1; 2], &records), 15);
+    records.push((0, 1));
+    refuses(&file(&[1; 2], &records), 4);
 }
 
 #[test]
@@ -257,7 +321,9 @@ fn lengths_that_are_enough() {
     assert_eq!(limits(), most);
     // the largest file: each bus joined to the 11 nearest on either side and to the one across
     let near = (0..512).flat_map(|bus| (1..=11).map(move |step| (bus, (bus + step) % 512)));
-    let lines: Vec<_> = near.chain((0..256).map(|bus| (bus, bus + 256))).collect();
+    let all = near.chain((0..256).map(|bus| (bus, bus + 256)));
+    let mut lines: Vec<_> = all.map(|(a, b)| (a.min(b), a.max(b))).collect();
+    lines.sort_unstable();
     let largest = file(&[1; 512], &lines);
     assert_eq!(largest.len(), most.file_bytes);
     let mut table = vec![0; most.entries];

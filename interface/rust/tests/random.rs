@@ -14,7 +14,7 @@ const FRACTIONS: usize = 500_000;
 
 /// How often a call was accepted (entry 0) and refused with each number.
 #[derive(Clone, Copy, Default)]
-struct Tally([usize; 15]);
+struct Tally([usize; 16]);
 
 impl Tally {
     fn count<A>(&mut self, answer: &Result<A, u8>) {
@@ -70,16 +70,18 @@ impl Repeats {
     fn count(&mut self, file: &[u8], table: &[u16]) {
         let n = table[0] as usize;
         let starts = &table[1 + n..];
-        let mut records = vec![0; n];
-        for end in file[4 + n..].chunks_exact(2) {
-            records[u16::from_le_bytes([end[0], end[1]]) as usize] += 1;
+        let Network { records, .. } = network(file);
+        let mut standing = vec![0; n];
+        for &(a, b) in &records {
+            standing[a as usize] += 1;
+            standing[b as usize] += 1;
         }
-        let (all, lines) = (records.iter().sum::<usize>() / 2, starts[n] as usize / 2);
-        if all > lines {
-            let is_full = |bus| starts[bus + 1] - starts[bus] == 23 && records[bus] > 23;
+        let lines = starts[n] as usize / 2;
+        if records.len() > lines {
+            let is_full = |bus| starts[bus + 1] - starts[bus] == 23 && standing[bus] > 23;
             self.files += 1;
             self.full_buses += usize::from((0..n).any(is_full));
-            self.most_records += usize::from(all == made::MOST_RECORDS);
+            self.most_records += usize::from(records.len() == made::MOST_RECORDS);
             self.one_pair += usize::from(lines == 1);
         }
     }
@@ -88,6 +90,131 @@ impl Repeats {
         println!("{self:?}");
         assert!(self.files >= 5_000 && self.full_buses >= 1_000, "{self:?}");
         assert!(self.most_records >= 100 && self.one_pair >= 1_000, "{self:?}");
+    }
+}
+
+/// The needs and records of a file whose sections are sound.
+fn network(file: &[u8]) -> Network {
+    let number = |at: usize| u16::from_le_bytes([file[at], file[at + 1]]);
+    let n = number(0) as usize;
+    let records = (4 + n..file.len()).step_by(4).map(|at| (number(at), number(at + 2))).collect();
+    Network { needs: file[2..2 + n].to_vec(), records }
+}
+
+/// The places of records that name their higher bus first, or are below the one before them.
+fn out_of_order(records: &[(u16, u16)]) -> Vec<usize> {
+    let is_out = |&at: &usize| {
+        let (a, b) = records[at];
+        a > b || (a, b) < before(records, at)
+    };
+    (0..records.len()).filter(is_out).collect()
+}
+
+/// The record before one; in front of the first, a pair that no record is below.
+fn before(records: &[(u16, u16)], at: usize) -> (u16, u16) {
+    at.checked_sub(1).map_or((0, 0), |at| records[at])
+}
+
+/// How often records were in order, and out of it in each way that counts.
+#[derive(Debug, Default)]
+struct Orders {
+    /// Accepted.
+    accepted: usize,
+    /// Refused with 15, and sound if its records were put in order.
+    sound_but_for_order: usize,
+    /// Refused with 15 because of the first record alone, the second alone, the last alone.
+    first_alone: usize,
+    second_alone: usize,
+    last_alone: usize,
+    /// Refused with 15, and no record is below the one before it: some name their higher bus first.
+    higher_first: usize,
+    /// Refused with 15, and the lower bus always comes first: records are below the one before
+    /// them by their first bus, while the second is above; by their second, while the first is equal.
+    below_by_first: usize,
+    below_by_second: usize,
+    /// Refused with 15 because of one record that is named again apart from its equals.
+    equal_apart: usize,
+    /// Refused with 15 though a bus has more than 23 neighbours: it has them before the first
+    /// record that is out of order; only with those behind.
+    crowded_before: usize,
+    crowded_behind: usize,
+    /// Refused with 6 though records are out of order: the first wrong end stands before the first
+    /// of these; behind it.
+    wrong_end_before: usize,
+    wrong_end_behind: usize,
+}
+
+impl Orders {
+    /// Counts a file, whose answer is given.
+    fn count<A>(&mut self, file: &[u8], answer: &Result<A, u8>) {
+        match answer {
+            Ok(_) => self.accepted += 1,
+            Err(6) => self.count_wrong_end(&network(file)),
+            Err(15) => self.count_out_of_order(&network(file)),
+            Err(_) => {}
+        }
+    }
+
+    fn count_wrong_end(&mut self, Network { needs, records }: &Network) {
+        let is_wrong = |&(a, b): &(u16, u16)| a == b || a.max(b) as usize >= needs.len();
+        let wrong_end = records.iter().position(is_wrong).expect("6 has a cause");
+        if let Some(&first) = out_of_order(records).first() {
+            self.wrong_end_before += usize::from(wrong_end < first);
+            self.wrong_end_behind += usize::from(wrong_end > first);
+        }
+    }
+
+    fn count_out_of_order(&mut self, Network { needs, records }: &Network) {
+        let places = out_of_order(records);
+        let first = *places.first().expect("15 has a cause");
+        self.first_alone += usize::from(places == [0]);
+        self.second_alone += usize::from(places == [1]);
+        self.last_alone += usize::from(places == [records.len() - 1]);
+
+        let each = |is_so: fn((u16, u16), (u16, u16)) -> bool| {
+            usize::from(places.iter().all(|&at| is_so(before(records, at), records[at])))
+        };
+        self.higher_first += each(|before, record| record >= before);
+        self.below_by_first += each(|before, (a, b)| a <= b && a < before.0 && b > before.1);
+        self.below_by_second += each(|before, (a, b)| a <= b && a == before.0 && b < before.1);
+
+        let is_again = |&at: &usize| {
+            let mut others = records.clone();
+            let record = others.remove(at);
+            others.contains(&record) && out_of_order(&others).is_empty()
+        };
+        self.equal_apart += usize::from([first.max(1) - 1, first].iter().any(is_again));
+
+        let is_crowded = |records: &[(u16, u16)]| {
+            let network = Network { needs: needs.clone(), records: records.to_vec() };
+            network.rows().iter().any(|row| row.len() > 23)
+        };
+        match (is_crowded(&records[..first]), is_crowded(records)) {
+            (true, _) => self.crowded_before += 1,
+            (_, true) => self.crowded_behind += 1,
+            _ => self.sound_but_for_order += 1,
+        }
+    }
+
+    /// Each way occurred at least 100 times, and most of the files that are sound but for order are
+    /// in order.
+    fn show(&self) {
+        println!("{self:?}");
+        assert!(self.accepted > 2 * self.sound_but_for_order, "{self:?}");
+        let ways = [
+            self.first_alone,
+            self.second_alone,
+            self.last_alone,
+            self.higher_first,
+            self.below_by_first,
+            self.below_by_second,
+            self.equal_apart,
+            self.crowded_before,
+            self.crowded_behind,
+            self.wrong_end_before,
+            self.wrong_end_behind,
+        ];
+        assert!(ways.iter().all(|&times| times >= 100), "{self:?}");
     }
 }
 
@@ -207,6 +334,7 @@ fn files() {
     let mut random = Random::new(0x5EED_0F11_E501);
     let mut tallies = Tallies::default();
     let mut repeats = Repeats::default();
+    let mut orders = Orders::default();
     let mut earlier: Vec<u16> = marks(20);
     for _ in 0..FILES {
         let file = match random.below(20) {
@@ -217,6 +345,7 @@ fn files() {
                 for _ in 0..random.below(if kind < 9 { 1 } else { 4 }) {
                     network.damage(&mut random);
                 }
+                network.order(&mut random);
                 let mut file = network.file();
                 for _ in 0..random.below(if kind < 12 { 1 } else { 3 }) {
                     made::damage_file(&mut file, &mut random);
@@ -227,6 +356,7 @@ fn files() {
         // twice as many entries as a file has bytes are enough for its table
         let spare = 2 * file.len() + random.below(9);
         let (answer, _) = read(&file, &marks(spare), &mut tallies);
+        orders.count(&file, &answer);
         match answer {
             Ok((n, m)) => {
                 let entries = 2 * n + 2 + 2 * m;
@@ -253,8 +383,9 @@ fn files() {
             }
         }
     }
-    tallies.read.shows("read", &[1, 2, 3, 4, 5, 6, 7, 10]);
+    tallies.read.shows("read", &[1, 2, 3, 4, 5, 6, 7, 10, 15]);
     repeats.show();
+    orders.show();
 }
 
 #[test]

@@ -4,7 +4,7 @@
 #[path = "../../tests/plain/mod.rs"]
 mod plain;
 
-use share_sheet::limits;
+use share_sheet::{limits, Refusal};
 use std::hint::black_box;
 use std::time::{Duration, Instant};
 
@@ -106,7 +106,15 @@ impl Network {
         self.file(&twice)
     }
 
-    /// The file with its records in any order, and the ends of each swapped or not.
+    /// The file with its last two records swapped: out of order, which its end alone shows.
+    fn last_swapped(&self) -> Vec<u8> {
+        let mut lines = self.lines.clone();
+        let last = lines.len() - 1;
+        lines.swap(last - 1, last);
+        self.file(&lines)
+    }
+
+    /// The file with its records in any order, and either end first: out of order from the front.
     fn shuffled(&self) -> Vec<u8> {
         let mut state = 0x5EED_u64;
         let mut below = |bound: usize| {
@@ -134,10 +142,12 @@ impl Network {
     }
 }
 
-fn measure_read(file: &[u8]) -> [f64; 2] {
+/// Read of a file that is accepted, or refused with a number.
+fn measure_read(file: &[u8], refusal: Option<u8>) -> [f64; 2] {
     let mut tables = [vec![0; limits().entries], vec![0; limits().entries]];
     let [mine, other] = &mut tables;
-    assert!(share_sheet::read(file, mine).is_ok() && plain::read(file, other).is_ok());
+    assert_eq!(share_sheet::read(file, mine).err().map(Refusal::number), refusal);
+    assert_eq!(plain::read(file, other).err(), refusal);
     measure(
         || _ = black_box(share_sheet::read(black_box(file), black_box(mine))),
         || _ = black_box(plain::read(black_box(file), black_box(other))),
@@ -186,8 +196,11 @@ fn measure_sheet_lines(table: &[u16]) -> [f64; 2] {
 fn print_calls(network: &Network) {
     let table = network.table();
     let calls = [
-        ("Read, records ascending", measure_read(&network.ascending())),
-        ("Read, records shuffled, ends swapped", measure_read(&network.shuffled())),
+        ("Read", measure_read(&network.ascending(), None)),
+        (
+            "Read, refused: last two records swapped",
+            measure_read(&network.last_swapped(), Some(15)),
+        ),
         ("Shares", measure_shares(&table)),
         ("Share, mean over all buses", measure_share(&table)),
         ("whole sheet, one call", measure_whole_sheet(&table)),
@@ -203,18 +216,26 @@ fn print_call(network: &str, call: &str, [library, plain]: [f64; 2]) {
     println!("| {network} | {call} | {library:.0} | {plain:.0} | {ratio:.2} |");
 }
 
+/// Read of a file that is out of order from its front; the ends of all records are judged before.
+fn print_shuffled() {
+    let network = Network::dense(limits().buses as u16);
+    let times = measure_read(&network.shuffled(), Some(15));
+    print_call(&network.name, "Read, refused: records shuffled", times);
+}
+
 /// Read of files with parallel circuits.
 fn print_repeats() {
     let most = limits().buses as u16;
     for network in [Network::sparse(most), Network::dense(most / 2)] {
-        print_call(&network.name, "Read, each record twice", measure_read(&network.doubled()));
+        let times = measure_read(&network.doubled(), None);
+        print_call(&network.name, "Read, each record twice", times);
     }
     let lines = vec![(0, 1)];
     let network = Network { name: format!("one line, {most} buses"), buses: most, lines };
     // as many records as the largest file has, which has four bytes for each
     let records = (limits().file_bytes - network.ascending().len()) / 4 + 1;
     let call = format!("Read, {records} records of it");
-    print_call(&network.name, &call, measure_read(&network.file(&vec![(0, 1); records])));
+    print_call(&network.name, &call, measure_read(&network.file(&vec![(0, 1); records]), None));
 }
 
 fn print_growth(network: impl Fn(u16) -> Network) {
@@ -226,7 +247,7 @@ fn print_growth(network: impl Fn(u16) -> Network) {
         let table = network.table();
         let entries = table.len();
         let each = |times: [f64; 2]| times.map(|time| time / entries as f64);
-        let [read, plain_read] = each(measure_read(&network.ascending()));
+        let [read, plain_read] = each(measure_read(&network.ascending(), None));
         let [shares, plain_shares] = each(measure_shares(&table));
         println!(
             "| {buses} | {entries} | {read:.2} | {plain_read:.2} | {shares:.2} | {plain_shares:.2} |"
@@ -246,6 +267,7 @@ fn main() {
     for network in [Network::star(24), Network::sparse(most), Network::dense(most)] {
         print_calls(&network);
     }
+    print_shuffled();
     print_repeats();
     println!();
     println!("Growth: nanoseconds for each table entry, a ring (2 lines at each bus).");

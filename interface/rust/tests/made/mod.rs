@@ -46,8 +46,8 @@ pub struct Network {
 }
 
 impl Network {
-    /// A sound network. Most are small; some have as many buses, lines or records as may be. One
-    /// in three names pairs again.
+    /// A sound network, its records in order. Most are small; some have as many buses, lines or
+    /// records as may be. One in three names pairs again.
     pub fn random(random: &mut Random) -> Self {
         let n = match random.below(600) {
             0..=399 => 1 + random.below(12),
@@ -76,7 +76,7 @@ impl Network {
                 _ => 1 + random.below(row.len() + 1) as u8,
             };
         }
-        network.order(random);
+        network.ascend();
         network
     }
 
@@ -153,19 +153,71 @@ impl Network {
         self.records.iter().copied().filter(|&(a, b)| a == bus || b == bus).collect()
     }
 
-    /// Puts the records in ascending order or in any, or leaves them; and turns none, some or all.
-    fn order(&mut self, random: &mut Random) {
-        match random.below(4) {
-            0 | 1 => self.records.sort_unstable(),
-            2 => random.shuffle(&mut self.records),
-            _ => {}
-        }
-        let turned = random.of(&[0, 0, 1, 2]);
+    /// Puts the records in the one order of files: the lower bus first, and ascending.
+    fn ascend(&mut self) {
         for record in &mut self.records {
-            if turned > 0 && random.one_in(turned) {
-                *record = (record.1, record.0);
-            }
+            *record = (record.0.min(record.1), record.0.max(record.1));
         }
+        self.records.sort_unstable();
+    }
+
+    /// Puts the records in order, or nearly; or leaves them where the faults have put them.
+    pub fn order(&mut self, random: &mut Random) {
+        let kind = random.below(10);
+        if kind > 0 {
+            self.ascend();
+        }
+        if kind > 7 {
+            self.disorder(random);
+        }
+    }
+
+    /// Takes records out of their order, most often a single one.
+    fn disorder(&mut self, random: &mut Random) {
+        let count = self.records.len();
+        if count == 0 {
+            return;
+        }
+        // the first and the last place are taken more often than others
+        let (at, to) = (random.below(count), random.below(count));
+        let (at, to) = (random.of(&[0, at, at, count - 1]), random.of(&[0, to, to, count - 1]));
+        match random.below(12) {
+            // two swapped that stand side by side
+            0..=3 if count > 1 => self.records.swap(at.max(1) - 1, at.max(1)),
+            // one moved
+            4 | 5 => {
+                let record = self.records.remove(at);
+                self.records.insert(to, record);
+            }
+            // one named again
+            6 | 7 => self.records.insert(to, self.records[at]),
+            // one turned
+            8 | 9 => self.turn(at),
+            // all turned, or some; they ascend as they stand, or not
+            10 => {
+                let turned = random.of(&[1, 2]);
+                for at in 0..count {
+                    if random.one_in(turned) {
+                        self.turn(at);
+                    }
+                }
+                if random.one_in(2) {
+                    self.records.sort_unstable();
+                }
+            }
+            // another order
+            _ => match random.below(3) {
+                0 => self.records.reverse(),
+                1 => self.records.sort_unstable_by_key(|&(a, b)| (b, a)),
+                _ => random.shuffle(&mut self.records),
+            },
+        }
+    }
+
+    /// Names the other bus of a record first.
+    fn turn(&mut self, at: usize) {
+        let (a, b) = self.records[at];
+        self.records[at] = (b, a);
     }
 
     /// Puts one fault into needs or records, drops records, or adds records.
@@ -173,7 +225,8 @@ impl Network {
         let n = self.needs.len();
         let bus = random.below(n) as u16;
         let at = random.below(self.records.len());
-        match random.below(8) {
+        // only in larger networks can a bus have 23 neighbours or 24, and there it often gets them
+        match random.below(if n > 24 { 16 } else { 8 }) {
             0 => self.needs[bus as usize] = random.of(&[0, 25, 26, 255]),
             1 => {
                 let wrong = n as u16 + random.of(&[0, 0, 1, 256]);
@@ -195,9 +248,9 @@ impl Network {
                 }
             }
             // a bus with 24 neighbours
-            5 => self.join(bus, 24, random),
+            5 | 8..=12 => self.join(bus, 24, random),
             // a bus in 24 records or more, with up to 23 neighbours
-            6 => {
+            6 | 13.. => {
                 self.join(bus, 23, random);
                 let again = self.records_of(bus);
                 for _ in again.len()..24 + random.below(3) {

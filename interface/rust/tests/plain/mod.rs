@@ -1,6 +1,6 @@
-//! A second reading of the scope and of order 1 in plain safe Rust, which shares nothing with the
-//! library. Tests compare the library with it, and the benchmark measures against it. Refusals are
-//! their numbers.
+//! A second reading of the scope and of orders 1 and 2 in plain safe Rust, which shares nothing with
+//! the library. Tests compare the library with it, and the benchmark measures against it. Refusals
+//! are their numbers.
 #![allow(dead_code)] // each program that has this module uses a part of it
 
 // The scope's limits. They stand here a second time, so that a wrong limit of the library is seen.
@@ -38,12 +38,16 @@ pub fn read(file: &[u8], table: &mut [u16]) -> Result<(usize, usize), u8> {
         }
         lines.push((a, b));
     }
+    // pairs compare by their first number, then by their second
+    if lines.iter().any(|&(a, b)| a > b) || lines.windows(2).any(|two| two[1] < two[0]) {
+        return Err(15);
+    }
     let mut rows = vec![Vec::new(); n];
     for &(a, b) in &lines {
         rows[a as usize].push(b);
         rows[b as usize].push(a);
     }
-    // parallel circuits: a pair that is named again, in either direction, counts once
+    // parallel circuits: a pair that is named again counts once
     for row in &mut rows {
         row.sort_unstable();
         row.dedup();
