@@ -95,13 +95,16 @@ misplaced : map (λ f. readOutcome f 100) (three 1 2 0 1 ∷ three 0 2 0 1 ∷ t
 unfolding needBytes records wordAt at endsBefore goesOn within needsInRange allBelow anyBelow sumBelow soundEnds twoBuses outOfOrder turned falls pairBelow degreeTooHigh pairCount repeats neighbours listBelow joinBelow joined joins three file
 misplaced = refl
 
+-- of several causes the first, with no entry lent: a wrong end, though it stands behind a turned record
+late-end : map (λ f. readOutcome f 0) (three 1 0 1 3 ∷ three 1 0 1 1 ∷ []) ≡ map refuses (6 ∷ 6 ∷ [])
+unfolding needBytes records wordAt at endsBefore goesOn within needsInRange allBelow anyBelow sumBelow soundEnds twoBuses outOfOrder turned falls pairBelow degreeTooHigh pairCount repeats neighbours listBelow joinBelow joined joins three file
+late-end = refl
+
 -- 24 records that join a bus to 24 others, and one more
 spokesAnd : ℕ → List ℕ
 spokesAnd b = file 25 (replicate 25 1) 25 (joinBelow 24 (λ k. 0 ∷ 0 ∷ suc k ∷ 0 ∷ []) ++ (0 ∷ 0 ∷ b ∷ 0 ∷ []))
 
--- of several causes the first, with no entry lent: a wrong end, though it stands behind a turned record, or last where a bus has 24 neighbours;
--- a fall behind these; a bus with 24 neighbours
-first-of-several :
-    map (λ f. readOutcome f 0) (three 1 0 1 3 ∷ spokesAnd 25 ∷ spokesAnd 1 ∷ star 24 ∷ []) ≡ map refuses (6 ∷ 6 ∷ 15 ∷ 7 ∷ [])
-unfolding needBytes records wordAt at endsBefore goesOn within needsInRange allBelow anyBelow sumBelow soundEnds twoBuses outOfOrder turned falls pairBelow degreeTooHigh pairCount repeats neighbours listBelow joinBelow joined joins three star file spokesAnd
-first-of-several = refl
+-- a wrong end behind these; a record behind these that is below the one before it; a bus with 24 neighbours alone
+late-fall : map (λ f. readOutcome f 0) (spokesAnd 25 ∷ spokesAnd 1 ∷ star 24 ∷ []) ≡ map refuses (6 ∷ 15 ∷ 7 ∷ [])
+unfolding needBytes records wordAt at endsBefore goesOn within needsInRange allBelow anyBelow sumBelow soundEnds twoBuses outOfOrder turned falls pairBelow degreeTooHigh pairCount repeats neighbours listBelow joinBelow joined joins star file spokesAnd
+late-fall = refl

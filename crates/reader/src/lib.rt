@@ -43,19 +43,16 @@ fn read_lines(needs: &[u8], section: &[u8], m: usize, table: &mut [u16]) -> Read
 {
     let n = needs.len();
     let mut counts = zero_counts();
-    let pairs = count_neighbours(section, n, m, &mut counts);
+    let lines = count_neighbours(section, n, m, &mut counts);
     if degree_too_high(&counts, n) {
         return Reading::Refused(Refusal::DegreeTooHigh);
     }
-    if table.len() < entries(n, pairs) {
+    if table.len() < entries(n, lines) {
         return Reading::Refused(Refusal::TableTooShort);
     }
     store_needs(needs, table);
     store_rows(section, n, m, &mut counts, table, 1 + n);
-    Reading::Accepted(Counts {
-        buses: n,
-        lines: pairs,
-    })
+    Reading::Accepted(Counts { buses: n, lines })
 }
 
 // Reads m records, of buses with these needs.

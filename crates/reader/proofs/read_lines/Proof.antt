@@ -36,7 +36,7 @@ low d = sym (too-high-counted (counting d .count-neighbours .ensures .1)) ∙ sy
 
 -- so many entries are asked for
 asked : (e : tie.After-entries) → let p = counting (e .before) in let s = start p in e .entries .result ≡ tableEntries (length (s .args .needs .now)) (pairCount (s .args .m) (s .args .section .now))
-asked e = e .entries .ensures ∙ ap (tableEntries _) (counting (e .before) .count-neighbours .ensures .0)
+asked e = omega (arith, e .entries .ensures, counting (e .before) .count-neighbours .ensures .0)
 
 returns-2 : tie.Need-returns-2
 returns-2 c = pass (low (c .before .before)) (below refl (asked (c .before)) (c .if2 .taken))
