@@ -31,8 +31,8 @@
     15  the first bus of a record is above its second, or a record is below the one before it
 
    No call allocates memory or keeps anything for the next one. share_sheet_whole takes some 30 KB
-   of stack, share_sheet_read some 25, each other call less than 8. Calls may run at the same time,
-   as long as none writes what another uses. */
+   of stack, each other call less than 8. Calls may run at the same time, as long as none writes
+   what another uses. */
 
 #ifndef SHARE_SHEET_H
 #define SHARE_SHEET_H

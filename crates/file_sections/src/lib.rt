@@ -200,7 +200,7 @@ pub fn sound_ends(section: &[u8], n: usize, m: usize) -> bool
     true
 }
 
-// Whether record k names its higher bus first, or is below the one before it.
+// Whether record k is out of order: it names its higher bus first, or is below the one before it.
 fn misplaced(section: &[u8], k: usize) -> bool
     requires { ⌜ 4 * k + 3 < length (now section) ⌝ }
     ensures { λ b. ⌜ b ≡ (turned (now (section .entry)) k || falls (now (section .entry)) k) ⌝ }
@@ -219,7 +219,7 @@ fn misplaced(section: &[u8], k: usize) -> bool
     ends.first < before.first
 }
 
-// Whether one of m records does or is.
+// Whether one of m records is out of order.
 pub fn out_of_order(section: &[u8], m: usize) -> bool
     requires { ⌜ 4 * m ≤ length (now section) ⌝ }
     ensures { λ b. ⌜ b ≡ outOfOrder m (now (section .entry)) ⌝ }

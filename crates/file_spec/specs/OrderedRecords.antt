@@ -9,15 +9,15 @@ use native.Mathlib.Omega.{arith}
 use borrow.Author.Tests.{ltb-false, eqb-true, eqb-false, eq-eqb, ne-eqb, lt-ltb}
 use lib.Dec.{ltb, eqb}
 use Rattle.lists.specs.Below.{listBelow}
-use Rattle.lists.specs.Tests.{split, fails, never-both, and-left, and-right, or-none, or-cases, eqb-self, eqb-comm}
-use Rattle.lists.specs.Loops.{last-or, anyBelow-at, anyBelow-by, anyBelow-none}
+use Rattle.lists.specs.Tests.{split, fails, never-both, or-none, eqb-self, eqb-comm}
+use Rattle.lists.specs.Loops.{last-or, anyBelow-by, anyBelow-none}
 use Rattle.lists.specs.ListBelow.{listBelow-same, listBelow-more}
 use Rattle.table_spec.specs.Limits.{maxBuses, maxLines}
 use Rattle.file_spec.specs.FileBytes.{firstEnd, secondEnd}
 use Rattle.file_spec.specs.SoundSections.{SoundEnds}
 use Rattle.file_spec.specs.RecordOrder.{turned, pairBelow, falls, outOfOrder}
 use Rattle.file_spec.specs.Records.{joins, joined, neighbours, repeats}
-use Rattle.file_spec.specs.RecordPairs.{joined-next}
+use Rattle.file_spec.specs.RecordPairs.{joined-next, joined-at}
 
 -- a pair that is not below another
 pub pair-facts : (a b c d : ℕ) → pairBelow a b c d ≡ false → (c ≤ a) × (a ≡ c → d ≤ b)
@@ -81,25 +81,13 @@ module _ {n m : ℕ} {r : List ℕ} (g : OrderedRecords n m r) where
 
   -- and where it names the same pair, its ends are the same, since the lower bus stands first in both
   earlier : (k : ℕ) → k < m → repeats r k ≡ true → (i : ℕ) × (i < k) × (firstEnd r i ≡ firstEnd r k) × (secondEnd r i ≡ secondEnd r k)
-  unfolding repeats joined joins
+  unfolding repeats
   earlier k b h =
-      let a = firstEnd r k in
-      let c = secondEnd r k in
-      let w = anyBelow-at (joins r a c) k h in
-      let i = w .0 in
-      let x = firstEnd r i in
-      let y = secondEnd r i in
+      let w = joined-at k r (firstEnd r k) (secondEnd r k) h in
       ⊎-elim
-      (λ t. (i, w .1, eqb-true x a (and-left (eqb x a) (eqb y c) t), eqb-true y c (and-right (eqb x a) (eqb y c) t)))
-      (λ t. absurd
-      (omega (
-        arith,
-        eqb-true x c (and-left (eqb x c) (eqb y a) t),
-        eqb-true y a (and-right (eqb x c) (eqb y a) t),
-        lower-first i (omega (arith, w .1)),
-        lower-first k b,
-      )))
-      (or-cases (eqb x a && eqb y c) (eqb x c && eqb y a) (w .2))
+      (λ t. (w .0, w .1, t .0, t .1))
+      (λ t. absurd (omega (arith, t .0, t .1, lower-first (w .0) (omega (arith, w .1)), lower-first k b)))
+      (w .2)
 
   -- where record k names a pair again, the one before it does
   pub repeats-facts : (k : ℕ) → k < m → repeats r k ≡ true → (0 < k) × (firstEnd r (k - 1) ≡ firstEnd r k) × (secondEnd r (k - 1) ≡ secondEnd r k)
@@ -123,35 +111,23 @@ module _ {n m : ℕ} {r : List ℕ} (g : OrderedRecords n m r) where
 
     -- the neighbours that earlier records give its first bus are below its second
     first-low : (j : ℕ) → joined k r a j ≡ true → j < c
-    unfolding joined joins
     first-low j h =
-        let w = anyBelow-at (joins r a j) k h in
-        let i = w .0 in
-        let x = firstEnd r i in
-        let y = secondEnd r i in
-        let p = before i k (w .1) b in
+        let w = joined-at k r a j h in
+        let p = before (w .0) k (w .1) b in
         ⊎-elim
-        (λ t. let e = eqb-true x a (and-left (eqb x a) (eqb y j) t) in
-        let d : y ≡ c → ⊥ = λ q. never-both (repeats-by r i k (w .1) e q) new in
-        omega (arith, eqb-true y j (and-right (eqb x a) (eqb y j) t), p .1 e, d))
-        (λ t. omega (arith, eqb-true x j (and-left (eqb x j) (eqb y a) t), p .0, lower-first k b))
-        (or-cases (eqb x a && eqb y j) (eqb x j && eqb y a) (w .2))
+        (λ t. let d : secondEnd r (w .0) ≡ c → ⊥ = λ q. never-both (repeats-by r (w .0) k (w .1) (t .0) q) new in omega (arith, t .1, p .1 (t .0), d))
+        (λ t. omega (arith, t .0, p .0, lower-first k b))
+        (w .2)
 
     -- and those that they give its second are below its first
     second-low : (j : ℕ) → joined k r c j ≡ true → j < a
-    unfolding joined joins
     second-low j h =
-        let w = anyBelow-at (joins r c j) k h in
-        let i = w .0 in
-        let x = firstEnd r i in
-        let y = secondEnd r i in
-        let p = before i k (w .1) b in
+        let w = joined-at k r c j h in
+        let p = before (w .0) k (w .1) b in
         ⊎-elim
-        (λ t. absurd (omega (arith, eqb-true x c (and-left (eqb x c) (eqb y j) t), p .0, lower-first k b)))
-        (λ t. let e = eqb-true y c (and-right (eqb x j) (eqb y c) t) in
-        let d : x ≡ a → ⊥ = λ q. never-both (repeats-by r i k (w .1) q e) new in
-        omega (arith, eqb-true x j (and-left (eqb x j) (eqb y c) t), p .0, d))
-        (or-cases (eqb x c && eqb y j) (eqb x j && eqb y c) (w .2))
+        (λ t. absurd (omega (arith, t .0, p .0, lower-first k b)))
+        (λ t. let d : firstEnd r (w .0) ≡ a → ⊥ = λ q. never-both (repeats-by r (w .0) k (w .1) q (t .1)) new in omega (arith, t .0, p .0, d))
+        (w .2)
 
     apart : eqb c a ≡ false
     apart = ne-eqb c a (omega (arith, lower-first k b))

@@ -1,40 +1,34 @@
 -- The neighbours that records give a bus: other buses of the network, ascending, where the ends are sound; and how many they may be.
-use mathlib.Core.Bool.{Bool, true, false, _&&_}
+use mathlib.Core.Bool.{Bool, true, false}
 use mathlib.Core.List.{List}
 use mathlib.Core.Logic.{⊎-elim}
 use mathlib.Core.Path.{_≡_, sym, _∙_}
 use Prim.Native.Nat.{ℕ, _≤_, _<_}
 use native.Mathlib.Omega.{arith}
-use borrow.Author.Tests.{ltb-true, ltb-false, eqb-true}
-use lib.Dec.{ltb, eqb}
+use borrow.Author.Tests.{ltb-true, ltb-false}
+use lib.Dec.{ltb}
 use lib.ListN.{length}
 use Rattle.lists.specs.Lists.{has}
-use Rattle.lists.specs.Tests.{split, fails, and-left, and-right, or-cases}
-use Rattle.lists.specs.Loops.{anyBelow-at, anyBelow-none}
+use Rattle.lists.specs.Tests.{split, fails}
+use Rattle.lists.specs.Loops.{anyBelow-none}
 use Rattle.lists.specs.ListBelow.{count-listBelow, has-listBelow, listBelow-in, listBelow-ascends}
 use Rattle.table_spec.specs.Limits.{maxDegree}
 use Rattle.table_spec.specs.Holds.{ValidRow}
-use Rattle.file_spec.specs.FileBytes.{firstEnd, secondEnd}
 use Rattle.file_spec.specs.Sections.{soundEnds}
 use Rattle.file_spec.specs.SoundSections.{ends-facts}
-use Rattle.file_spec.specs.Records.{joins, joined, neighbours, degreeTooHigh}
+use Rattle.file_spec.specs.Records.{joined, neighbours, degreeTooHigh}
+use Rattle.file_spec.specs.RecordPairs.{joined-at}
 
 module _ (n m : ℕ) (r : List ℕ) (sound : soundEnds n m r ≡ true) where
   -- who is joined is a bus, and another one
   joined-buses : (i j : ℕ) → joined m r i j ≡ true → (j < n) × (j ≡ i → ⊥)
-  unfolding joined joins
   joined-buses i j h =
-      let w = anyBelow-at _ m h in
-      let k = w .0 in
-      let a = firstEnd r k in
-      let b = secondEnd r k in
-      let e = ends-facts n m r sound k (w .1) in
+      let w = joined-at m r i j h in
+      let e = ends-facts n m r sound (w .0) (w .1) in
       ⊎-elim
-      (λ t. let p = eqb-true a i (and-left (eqb a i) (eqb b j) t) in
-      let q = eqb-true b j (and-right (eqb a i) (eqb b j) t) in (omega (arith, e .1, q), λ z. e .2 (p ∙ sym z ∙ sym q)))
-      (λ t. let p = eqb-true a j (and-left (eqb a j) (eqb b i) t) in
-      let q = eqb-true b i (and-right (eqb a j) (eqb b i) t) in (omega (arith, e .0, p), λ z. e .2 (p ∙ z ∙ sym q)))
-      (or-cases (eqb a i && eqb b j) (eqb a j && eqb b i) (w .2))
+      (λ t. (omega (arith, e .1, t .1), λ z. e .2 (t .0 ∙ sym z ∙ sym (t .1))))
+      (λ t. (omega (arith, e .0, t .0), λ z. e .2 (t .0 ∙ z ∙ sym (t .1))))
+      (w .2)
 
   pub neighbours-valid : (i : ℕ) → ValidRow n i (neighbours n m r i)
   unfolding neighbours

@@ -1,7 +1,7 @@
 -- Laws of the pairs that records join.
 use mathlib.Core.Bool.{Bool, true, false, not, _&&_, _||_, and-comm, or-comm, or-false}
 use mathlib.Core.List.{List}
-use mathlib.Core.Logic.{⊎-elim}
+use mathlib.Core.Logic.{_⊎_, inl, inr, ⊎-elim}
 use mathlib.Core.Path.{_≡_, sym, ap, ap₂, _∙_, fun-ext}
 use Prim.Native.Nat.{ℕ, zero, suc, _+_, _*_, _≤_, _<_}
 use native.Mathlib.Omega.{arith}
@@ -30,16 +30,30 @@ pub joined-next : (k : ℕ) (r : List ℕ) (i j : ℕ) → joined (k + 1) r i j 
 unfolding joined
 joined-next k r i j = anyBelow-next k (joins r i j)
 
--- a pair that record k joins is the record's own pair
-joins-own : (r : List ℕ) (i j k : ℕ) → joins r i j k ≡ true → joined k r i j ≡ repeats r k
-unfolding joins repeats
-joins-own r i j k h =
+-- the ends of a record that joins i and j
+abbrev pub EndsAre : List ℕ → ℕ → ℕ → ℕ → Type 0
+EndsAre r i j k = ((firstEnd r k ≡ i) × (secondEnd r k ≡ j)) ⊎ ((firstEnd r k ≡ j) × (secondEnd r k ≡ i))
+
+joins-facts : (r : List ℕ) (i j k : ℕ) → joins r i j k ≡ true → EndsAre r i j k
+unfolding joins
+joins-facts r i j k h =
     let a = firstEnd r k in
     let b = secondEnd r k in
     ⊎-elim
-    (λ e. ap₂ (joined k r) (sym (eqb-true a i (and-left (eqb a i) (eqb b j) e))) (sym (eqb-true b j (and-right (eqb a i) (eqb b j) e))))
-    (λ e. joined-sym k r i j ∙ ap₂ (joined k r) (sym (eqb-true a j (and-left (eqb a j) (eqb b i) e))) (sym (eqb-true b i (and-right (eqb a j) (eqb b i) e))))
+    (λ e. inl (eqb-true a i (and-left (eqb a i) (eqb b j) e), eqb-true b j (and-right (eqb a i) (eqb b j) e)))
+    (λ e. inr (eqb-true a j (and-left (eqb a j) (eqb b i) e), eqb-true b i (and-right (eqb a j) (eqb b i) e)))
     (or-cases (eqb a i && eqb b j) (eqb a j && eqb b i) h)
+
+-- where i and j are joined, by such a record
+pub joined-at : (m : ℕ) (r : List ℕ) (i j : ℕ) → joined m r i j ≡ true → (k : ℕ) × (k < m) × EndsAre r i j k
+unfolding joined
+joined-at m r i j h = let w = anyBelow-at (joins r i j) m h in (w .0, w .1, joins-facts r i j (w .0) (w .2))
+
+-- a pair that record k joins is the record's own pair
+joins-own : (r : List ℕ) (i j k : ℕ) → joins r i j k ≡ true → joined k r i j ≡ repeats r k
+unfolding repeats
+joins-own r i j k h =
+    ⊎-elim (λ e. ap₂ (joined k r) (sym (e .0)) (sym (e .1))) (λ e. joined-sym k r i j ∙ ap₂ (joined k r) (sym (e .0)) (sym (e .1))) (joins-facts r i j k h)
 
 -- a record that repeats a pair joins nobody anew
 pub joined-again : (k : ℕ) (r : List ℕ) (i j : ℕ) → repeats r k ≡ true → (joined k r i j || joins r i j k) ≡ joined k r i j
