@@ -1,4 +1,4 @@
-// Why a call is refused: a named case for each cause of the scope's two lists, and its number there.
+// Why a call is refused: a named case for each cause of the scope's two lists, with what orders add to them, and its number there.
 ghost use mathlib.Core.Path.{_≡_};
 ghost use Rattle.refusals.specs.Numbers.{numberOf};
 
