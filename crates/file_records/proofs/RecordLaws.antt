@@ -37,8 +37,8 @@ pub counts-none : (n : ℕ) (r : List ℕ) {counts : List ℕ} → AllZero count
 counts-none n r z = record { size = z .size; each = λ i b. z .zero i ∙ sym (ap length (neighbours-none n r i)) }
 
 -- no count passes the limit of buses
-pub count-le : {n k : ℕ} {r counts : List ℕ} → NeighbourCounts n k r counts → {i : ℕ} → i < n → at counts i ≤ n
-count-le {n} {k} {r} w {i} b = omega (arith, w .each i b, neighbours-le n k r i)
+pub neighbour-count-le : {n k : ℕ} {r counts : List ℕ} → NeighbourCounts n k r counts → {i : ℕ} → i < n → at counts i ≤ n
+neighbour-count-le {n} {k} {r} w {i} b = omega (arith, w .each i b, neighbours-le n k r i)
 
 -- all rows together have fewer numbers than a place can count
 room : {n m : ℕ} {r : List ℕ} → OrderedRecords n m r → {rows : ℕ → List ℕ} {next all : List ℕ} → GrowingRows n (λ i. length (neighbours n m r i)) rows next all

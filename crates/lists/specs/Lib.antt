@@ -10,6 +10,7 @@
 --   -grows                 no less where there is more of what it goes by
 --   -fits                  there is space for it
 --   -facts, -test          a test that passes gives the facts; where the facts hold, the test passes
+--   -by                    it is so, by something that makes it so
 --   -read                  as code reads it, into numbers and slices of its own
 --   -least                 the law of a least common multiple
 -- A name that begins with length-, at-, count-, has-, in- or of- is about the length, entries, counts or members of what follows.

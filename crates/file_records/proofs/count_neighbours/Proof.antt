@@ -12,7 +12,7 @@ use Rattle.lists.specs.Loops.{by-end}
 use Rattle.file_spec.specs.Records.{repeats, pairCount}
 use Rattle.file_spec.specs.RecordPairs.{pairCount-le, pairCount-next}
 use Rattle.file_records.specs.RecordSteps.{NeighbourCounts}
-use Rattle.file_records.proofs.RecordLaws.{repeats-last, first-bus, second-bus, count-le, second-count-le, counts-none, counts-again, counts-next}
+use Rattle.file_records.proofs.RecordLaws.{repeats-last, first-bus, second-bus, neighbour-count-le, second-count-le, counts-none, counts-again, counts-next}
 use Rattle.file_records.proofs.count_neighbours.Statement.{statement}
 use Rattle.file_records.proofs.count_neighbours.Tie as tie
 
@@ -45,7 +45,7 @@ increment-requires c κs =
     let d = e .before in
     let g = start d .pre .1 in
     let b = first-bus g (in-loop d .loop-test .taken) (new d) (e .ends-of .ensures) in
-    (omega (arith, b, g .buses), omega (arith, count-le (at-loop d .loop .inv .2) b, g .buses))
+    (omega (arith, b, g .buses), omega (arith, neighbour-count-le (at-loop d .loop .inv .2) b, g .buses))
 
 increment-requires-2 : tie.Need-increment-requires-2 Inv-loop μ-loop
 increment-requires-2 c κs =
