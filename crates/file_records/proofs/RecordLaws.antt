@@ -46,6 +46,14 @@ room : {n m : ℕ} {r : List ℕ} → OrderedRecords n m r → {rows : ℕ → L
 room {n} {m} {r} g w =
     omega (arith, w .wide, length-joinBelow n (neighbours n m r), rows-length n m r (g .ends), pairCount-le m r, g .lines)
 
+-- a record that names a pair again gives no bus a neighbour
+pub neighbours-again : (n k : ℕ) (r : List ℕ) → repeats r k ≡ true → (i : ℕ) → neighbours n k r i ≡ neighbours n (k + 1) r i
+unfolding neighbours
+neighbours-again n k r h i = sym (listBelow-same _ _ n (λ j z. joined-next k r i j ∙ joined-again k r i j h))
+
+pub counts-again : {n k : ℕ} {r counts : List ℕ} → NeighbourCounts n k r counts → repeats r k ≡ true → NeighbourCounts n (k + 1) r counts
+counts-again {n} {k} {r} w h = record { size = w .size; each = λ i b. w .each i b ∙ ap length (neighbours-again n k r h i) }
+
 module _ {n m : ℕ} {r : List ℕ} (g : OrderedRecords n m r) {k : ℕ} (l : k < m) where
   -- a record names a pair again exactly if it equals the one before it
   pub repeats-last : equalsLast r k ≡ repeats r k
@@ -61,79 +69,72 @@ module _ {n m : ℕ} {r : List ℕ} (g : OrderedRecords n m r) {k : ℕ} (l : k 
       repeats-by r (k - 1) k (omega arith) (sym (eqb-true a x (and-left (eqb a x) (eqb c y) v))) (sym (eqb-true c y (and-right (eqb a x) (eqb c y) v))))
       (λ t. let w = repeats-facts g k l t in rw (lt-ltb 0 k (w .0), eq-eqb a x (sym (w .1)), eq-eqb c y (sym (w .2))))
 
-  -- then no bus gets a neighbour
-  pub neighbours-again : repeats r k ≡ true → (i : ℕ) → neighbours n k r i ≡ neighbours n (k + 1) r i
-  unfolding neighbours
-  neighbours-again h i = sym (listBelow-same _ _ n (λ j z. joined-next k r i j ∙ joined-again k r i j h))
-
-  pub counts-again : repeats r k ≡ true → {counts : List ℕ} → NeighbourCounts n k r counts → NeighbourCounts n (k + 1) r counts
-  counts-again h w = record { size = w .size; each = λ i b. w .each i b ∙ ap length (neighbours-again h i) }
-
-  -- else its ends, which were read into a and c, get one another
-  module _ (new : repeats r k ≡ false) {a c : ℕ} (e : (a ≡ firstEnd r k) × (c ≡ secondEnd r k)) where
+  -- its ends were read into a and c; where it names a new pair they get one another
+  module _ {a c : ℕ} (e : (a ≡ firstEnd r k) × (c ≡ secondEnd r k)) where
     pub first-bus : a < n
     first-bus = omega (arith, e .0, g .ends k l .0)
 
     pub second-bus : c < n
     second-bus = omega (arith, e .1, g .ends k l .1)
 
-    -- the first is added to
-    abbrev pub one : ℕ → List ℕ
-    one i = cond (eqb a i) (neighbours n k r i ++ (c ∷ [])) (neighbours n k r i)
+    module _ (new : repeats r k ≡ false) where
+      -- the row of the first has grown, and not yet that of the second
+      abbrev pub rowsHalf : ℕ → List ℕ
+      rowsHalf i = cond (eqb a i) (neighbours n k r i ++ (c ∷ [])) (neighbours n k r i)
 
-    rows-both : (i : ℕ) → cond (eqb c i) (one i ++ (a ∷ [])) (one i) ≡ neighbours n (k + 1) r i
-    rows-both i = rw (e .0, e .1) (rows-grow g k l new i)
+      rows-both : (i : ℕ) → cond (eqb c i) (rowsHalf i ++ (a ∷ [])) (rowsHalf i) ≡ neighbours n (k + 1) r i
+      rows-both i = rw (e .0, e .1) (rows-grow g k l new i)
 
-    pub neighbours-more : (i : ℕ) → length (neighbours n (k + 1) r i) ≡ length (neighbours n k r i) + indicator (eqb a i) + indicator (eqb c i)
-    neighbours-more i =
-        sym (ap length (rows-both i)) ∙ length-grown (eqb c i) (one i) a ∙ ap (λ s. s + indicator (eqb c i)) (length-grown (eqb a i) (neighbours n k r i) c)
+      neighbours-more : (i : ℕ) → length (neighbours n (k + 1) r i) ≡ length (neighbours n k r i) + indicator (eqb a i) + indicator (eqb c i)
+      neighbours-more i =
+          sym (ap length (rows-both i)) ∙ length-grown (eqb c i) (rowsHalf i) a ∙ ap (λ s. s + indicator (eqb c i)) (length-grown (eqb a i) (neighbours n k r i) c)
 
-    -- each count goes up by one
-    module _ {counts counts₁ : List ℕ} (w : NeighbourCounts n k r counts) (p : counts₁ ≡ set counts a (at counts a + 1)) where
-      first-counted : Tabled n (λ i. length (neighbours n k r i) + indicator (eqb a i)) counts₁
-      first-counted i b =
-          ap (λ t. at t i) p ∙ tabled-more (λ i. length (neighbours n k r i)) n counts a (w .each) first-bus (omega (arith, w .size, first-bus, g .buses)) i b
+      -- each count goes up by one
+      module _ {counts counts₁ : List ℕ} (w : NeighbourCounts n k r counts) (p : counts₁ ≡ set counts a (at counts a + 1)) where
+        first-counted : Tabled n (λ i. length (neighbours n k r i) + indicator (eqb a i)) counts₁
+        first-counted i b =
+            ap (λ t. at t i) p ∙ tabled-more (λ i. length (neighbours n k r i)) n counts a (w .each) first-bus (omega (arith, w .size, first-bus, g .buses)) i b
 
-      pub second-count-le : at counts₁ c ≤ n
-      second-count-le = omega (arith, first-counted c second-bus, neighbours-more c, neighbours-le n (k + 1) r c)
+        pub second-count-le : at counts₁ c ≤ n
+        second-count-le = omega (arith, first-counted c second-bus, neighbours-more c, neighbours-le n (k + 1) r c)
 
-      pub counts-next : {counts₂ : List ℕ} → counts₂ ≡ set counts₁ c (at counts₁ c + 1) → NeighbourCounts n (k + 1) r counts₂
-      counts-next q =
-          let s : length counts₁ ≡ maxBuses = ap length p ∙ length-set counts a _ ∙ w .size in
-          record {
-            size = ap length q ∙ length-set counts₁ c _ ∙ s;
-            each = λ i b.
-                ap (λ t. at t i) q
-                ∙ tabled-more (λ i. length (neighbours n k r i) + indicator (eqb a i)) n counts₁ c first-counted second-bus (omega (arith, s, second-bus, g .buses)) i b
-                ∙ sym (neighbours-more i);
-          }
+        pub counts-next : {counts₂ : List ℕ} → counts₂ ≡ set counts₁ c (at counts₁ c + 1) → NeighbourCounts n (k + 1) r counts₂
+        counts-next q =
+            let s : length counts₁ ≡ maxBuses = ap length p ∙ length-set counts a _ ∙ w .size in
+            record {
+              size = ap length q ∙ length-set counts₁ c _ ∙ s;
+              each = λ i b.
+                  ap (λ t. at t i) q
+                  ∙ tabled-more (λ i. length (neighbours n k r i) + indicator (eqb a i)) n counts₁ c first-counted second-bus (omega (arith, s, second-bus, g .buses)) i b
+                  ∙ sym (neighbours-more i);
+            }
 
-    -- each row goes on
-    abbrev sizes : ℕ → ℕ
-    sizes i = length (neighbours n m r i)
+      -- each row goes on
+      abbrev sizes : ℕ → ℕ
+      sizes i = length (neighbours n m r i)
 
-    more-le : (i : ℕ) → length (neighbours n k r i) + indicator (eqb a i) + indicator (eqb c i) ≤ sizes i
-    more-le i = omega (arith, neighbours-more i, neighbours-grows n (k + 1) m r i (omega arith))
+      more-le : (i : ℕ) → length (neighbours n k r i) + indicator (eqb a i) + indicator (eqb c i) ≤ sizes i
+      more-le i = omega (arith, neighbours-more i, neighbours-grows n (k + 1) m r i (omega arith))
 
-    first-short : length (neighbours n k r a) < sizes a
-    first-short = omega (arith, more-le a, ap indicator (eqb-self a))
+      first-short : length (neighbours n k r a) < sizes a
+      first-short = omega (arith, more-le a, ap indicator (eqb-self a))
 
-    one-le : (i : ℕ) → length (one i) + indicator (eqb c i) ≤ sizes i
-    one-le i = omega (arith, more-le i, length-grown (eqb a i) (neighbours n k r i) c)
+      half-le : (i : ℕ) → length (rowsHalf i) + indicator (eqb c i) ≤ sizes i
+      half-le i = omega (arith, more-le i, length-grown (eqb a i) (neighbours n k r i) c)
 
-    second-short : length (one c) < sizes c
-    second-short = omega (arith, one-le c, ap indicator (eqb-self c))
+      second-short : length (rowsHalf c) < sizes c
+      second-short = omega (arith, half-le c, ap indicator (eqb-self c))
 
-    module _ {next all : List ℕ} (w : GrowingRows n sizes (neighbours n k r) next all) where
-      pub first-fits : (at next a < length all) × (at next a < 65535)
-      first-fits = let f = growing-fits w first-bus first-short in (f, omega (arith, f, room g w))
+      module _ {next all : List ℕ} (w : GrowingRows n sizes (neighbours n k r) next all) where
+        pub first-fits : (at next a < length all) × (at next a < 65535)
+        first-fits = let f = growing-fits w first-bus first-short in (f, omega (arith, f, room g w))
 
-      pub first-grown : {next₁ all₁ : List ℕ} → all₁ ≡ set all (at next a) c → next₁ ≡ set next a (at next a + 1) → GrowingRows n sizes one next₁ all₁
-      first-grown = growing-next w a c first-bus (g .buses) first-short (λ i b. omega (arith, more-le i))
+        pub first-grown : {next₁ all₁ : List ℕ} → all₁ ≡ set all (at next a) c → next₁ ≡ set next a (at next a + 1) → GrowingRows n sizes rowsHalf next₁ all₁
+        first-grown = growing-next w a c first-bus (g .buses) first-short (λ i b. omega (arith, more-le i))
 
-    module _ {next all : List ℕ} (w : GrowingRows n sizes one next all) where
-      pub second-fits : (at next c < length all) × (at next c < 65535)
-      second-fits = let f = growing-fits w second-bus second-short in (f, omega (arith, f, room g w))
+      module _ {next all : List ℕ} (w : GrowingRows n sizes rowsHalf next all) where
+        pub second-fits : (at next c < length all) × (at next c < 65535)
+        second-fits = let f = growing-fits w second-bus second-short in (f, omega (arith, f, room g w))
 
-      pub second-grown : {next₁ all₁ : List ℕ} → all₁ ≡ set all (at next c) a → next₁ ≡ set next c (at next c + 1) → GrowingRows n sizes (neighbours n (k + 1) r) next₁ all₁
-      second-grown p q = growing-same (growing-next w c a second-bus (g .buses) second-short (λ i b. omega (arith, one-le i)) p q) (neighbours n (k + 1) r) (λ i b. rows-both i)
+        pub second-grown : {next₁ all₁ : List ℕ} → all₁ ≡ set all (at next c) a → next₁ ≡ set next c (at next c + 1) → GrowingRows n sizes (neighbours n (k + 1) r) next₁ all₁
+        second-grown p q = growing-same (growing-next w c a second-bus (g .buses) second-short (λ i b. omega (arith, half-le i)) p q) (neighbours n (k + 1) r) (λ i b. rows-both i)

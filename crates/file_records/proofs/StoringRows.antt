@@ -20,7 +20,7 @@ use Rattle.file_spec.specs.OrderedRecords.{OrderedRecords}
 use Rattle.file_records.specs.RecordSteps.{NeighbourCounts}
 
 -- the neighbours that m records give n buses were counted
-module _ {n m : ℕ} {r counts : List ℕ} (g : OrderedRecords n m r) (w : NeighbourCounts n m r counts) where
+module _ {n m : ℕ} {r counts : List ℕ} (w : NeighbourCounts n m r counts) where
   abbrev rows : ℕ → List ℕ
   rows = neighbours n m r
 
@@ -31,8 +31,8 @@ module _ {n m : ℕ} {r counts : List ℕ} (g : OrderedRecords n m r) (w : Neigh
   pub numbers-counted : sumBelow n (at counts) ≡ length (joinBelow n rows)
   numbers-counted = counted n (omega arith) ∙ sym (length-joinBelow n rows)
 
-  pub numbers-le : sumBelow n (at counts) ≤ 2 * maxLines
-  numbers-le = omega (arith, numbers-counted, rows-length n m r (g .ends), pairCount-le m r, g .lines)
+  pub numbers-le : OrderedRecords n m r → sumBelow n (at counts) ≤ 2 * maxLines
+  numbers-le g = omega (arith, numbers-counted, rows-length n m r (g .ends), pairCount-le m r, g .lines)
 
   pub laid-counted : length (laid n rows) ≡ n + 1 + sumBelow n (at counts)
   laid-counted = omega (arith, length-laid rows n, numbers-counted)

@@ -44,7 +44,7 @@ increment-requires c κs =
     let e = c .before in
     let d = e .before in
     let g = start d .pre .1 in
-    let b = first-bus g (in-loop d .loop-test .taken) (new d) (e .ends-of .ensures) in
+    let b = first-bus g (in-loop d .loop-test .taken) (e .ends-of .ensures) in
     (omega (arith, b, g .buses), omega (arith, neighbour-count-le (at-loop d .loop .inv .2) b, g .buses))
 
 increment-requires-2 : tie.Need-increment-requires-2 Inv-loop μ-loop
@@ -52,8 +52,8 @@ increment-requires-2 c κs =
     let e = c .before .before .before in
     let d = e .before in
     let g = start d .pre .1 in
-    let b = second-bus g (in-loop d .loop-test .taken) (new d) (e .ends-of .ensures) in
-    (omega (arith, b, g .buses), omega (arith, second-count-le g (in-loop d .loop-test .taken) (new d) (e .ends-of .ensures) (at-loop d .loop .inv .2) (c .before .increment .ensures), g .buses))
+    let b = second-bus g (in-loop d .loop-test .taken) (e .ends-of .ensures) in
+    (omega (arith, b, g .buses), omega (arith, second-count-le g (in-loop d .loop-test .taken) (e .ends-of .ensures) (new d) (at-loop d .loop .inv .2) (c .before .increment .ensures), g .buses))
 
 add-pairs : tie.Need-add-pairs Inv-loop μ-loop
 add-pairs c =
@@ -72,10 +72,10 @@ loop-again c =
     ⊎-elim
     (λ w.
     let n = sym again ∙ failed (c .before .equals-last .ensures) (w .0 .taken) in
-    (omega arith, w .7 ∙ omega (arith, v .inv .1, next, ap (λ t. indicator (not t)) n), rw (w .6) (counts-next (s .pre .1) b n (w .1 .ensures) (v .inv .2) (w .3 .ensures) (w .5 .ensures))))
+    (omega arith, w .7 ∙ omega (arith, v .inv .1, next, ap (λ t. indicator (not t)) n), rw (w .6) (counts-next (s .pre .1) b (w .1 .ensures) n (v .inv .2) (w .3 .ensures) (w .5 .ensures))))
     (λ w.
     let y = sym again ∙ passed (c .before .equals-last .ensures) (w .0 .left) in
-    (omega arith, w .2 ∙ omega (arith, v .inv .1, next, ap (λ t. indicator (not t)) y), rw (w .1) (counts-again (s .pre .1) b y (v .inv .2))))
+    (omega arith, w .2 ∙ omega (arith, v .inv .1, next, ap (λ t. indicator (not t)) y), rw (w .1) (counts-again (v .inv .2) y)))
     (c .if1 .came)
 
 returns : tie.Need-returns Inv-loop μ-loop

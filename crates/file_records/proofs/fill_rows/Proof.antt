@@ -43,7 +43,7 @@ low e =
     let d = e .before in
     let g = start d .pre .0 .1 in
     let b = in-loop d .loop-test .taken in
-    (omega (arith, first-bus g b (new d) (e .ends-of .ensures), g .buses), omega (arith, second-bus g b (new d) (e .ends-of .ensures), g .buses))
+    (omega (arith, first-bus g b (e .ends-of .ensures), g .buses), omega (arith, second-bus g b (e .ends-of .ensures), g .buses))
 
 cast-append : tie.Need-cast-append Inv-loop μ-loop
 cast-append c = omega (arith, low (c .before .before .before))
@@ -52,7 +52,7 @@ append-requires : tie.Need-append-requires Inv-loop μ-loop
 append-requires c κs =
     let e = c .before .before .before in
     let d = e .before in
-    let f = first-fits (start d .pre .0 .1) (in-loop d .loop-test .taken) (new d) (e .ends-of .ensures) (at-loop d .loop .inv .1) in
+    let f = first-fits (start d .pre .0 .1) (in-loop d .loop-test .taken) (e .ends-of .ensures) (new d) (at-loop d .loop .inv .1) in
     (low e .0, f .0, f .1)
 
 cast-append-2 : tie.Need-cast-append-2 Inv-loop μ-loop
@@ -65,7 +65,7 @@ append-requires-2 c κs =
     let d = e .before in
     let g = start d .pre .0 .1 in
     let b = in-loop d .loop-test .taken in
-    let f = second-fits g b (new d) (e .ends-of .ensures) (first-grown g b (new d) (e .ends-of .ensures) (at-loop d .loop .inv .1) (p .append .ensures .0) (p .append .ensures .1)) in
+    let f = second-fits g b (e .ends-of .ensures) (new d) (first-grown g b (e .ends-of .ensures) (new d) (at-loop d .loop .inv .1) (p .append .ensures .0) (p .append .ensures .1)) in
     (low e .1, f .0, f .1)
 
 loop-again : tie.Need-loop-again Inv-loop μ-loop
@@ -79,10 +79,10 @@ loop-again c =
     ⊎-elim
     (λ w. let z = sym again ∙ failed (c .before .equals-last .ensures) (w .0 .taken) in
     let e = w .1 .ensures in
-    let one = first-grown g b z e (v .inv .1) (w .5 .ensures .0) (w .5 .ensures .1) in
-    (omega arith, rw (w .14, w .15) (second-grown g b z e one (w .11 .ensures .0) (w .11 .ensures .1))))
+    let one = first-grown g b e z (v .inv .1) (w .5 .ensures .0) (w .5 .ensures .1) in
+    (omega arith, rw (w .14, w .15) (second-grown g b e z one (w .11 .ensures .0) (w .11 .ensures .1))))
     (λ w. let y = sym again ∙ passed (c .before .equals-last .ensures) (w .0 .left) in
-    (omega arith, rw (w .1, w .2) (growing-same (v .inv .1) _ (λ i _. neighbours-again g b y i))))
+    (omega arith, rw (w .1, w .2) (growing-same (v .inv .1) _ (λ i _. neighbours-again _ _ _ y i))))
     (c .if1 .came)
 
 same-length : tie.Need-same-length Inv-loop μ-loop

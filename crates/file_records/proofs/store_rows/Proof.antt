@@ -18,14 +18,14 @@ start p = p .before .before .before .before .before
 
 -- the rows end where the table has room
 end-le : (p : tie.After-store-starts) → let a = start p .args in a .from + a .n + 1 + p .store-starts .result ≤ length (a .table .now)
-end-le p = let h = start p .pre in omega (arith, laid-counted (h .0 .1) (h .0 .2), p .store-starts .ensures .1 .0, h .1)
+end-le p = let h = start p .pre in omega (arith, laid-counted (h .0 .2), p .store-starts .ensures .1 .0, h .1)
 
 store-starts-requires : tie.Need-store-starts-requires
 store-starts-requires c κs =
     let h = c .before .before .before .before .pre in
     let g = h .0 .1 in
     let w = h .0 .2 in
-    ((g .buses, omega (arith, laid-counted g w, h .1)), (w .size, omega (arith, numbers-le g w)))
+    ((g .buses, omega (arith, laid-counted w, h .1)), (w .size, omega (arith, numbers-le w g)))
 
 add-end : tie.Need-add-end
 add-end c = let z = end-le (c .before .before) in omega arith
@@ -41,7 +41,7 @@ fill-rows-requires c κs =
     let z = end-le p in
     let first = a .from + a .n + 1 in (
       (h .0, h .1),
-      growing-start (h .1) (h .2) (p .store-starts .ensures .1 .1)
+      growing-start (h .2) (p .store-starts .ensures .1 .1)
           (length-part first (first + p .store-starts .result) (p .store-starts .last .1 .1 .0) (omega (arith, p .store-starts .kept .1 .1 .0)) ∙ omega (arith, p .store-starts .ensures .1 .0)),
     )
 
@@ -55,9 +55,9 @@ returns c =
     let rows = joinBelow (a .n) (neighbours (a .n) (a .m) (a .section .now)) in
     let t = p .store-starts .last .1 .1 .0 in
     let first = a .from + a .n + 1 in
-    laid-stored (h .1) (h .2) (a .table .now) (a .from) (omega arith) (p .store-starts .ensures .0)
+    laid-stored (h .2) (a .table .now) (a .from) (omega arith) (p .store-starts .ensures .0)
     (ap (λ l. take first t ++ (l ++ drop (first + p .store-starts .result - first) (drop first t))) (q .fill-rows .ensures)
-    ∙ put-whole t first rows (omega (arith, p .store-starts .ensures .1 .0, numbers-counted (h .1) (h .2))))
+    ∙ put-whole t first rows (omega (arith, p .store-starts .ensures .1 .0, numbers-counted (h .2))))
 
 pub store-rows-spec : {M : Type 1} → statement M
 store-rows-spec =
