@@ -8,31 +8,19 @@ use borrow.Author.Tests.{ltb-true, eqb-true, eq-eqb, lt-ltb}
 use lib.Dec.{ltb, eqb}
 use lib.ListN.{length, set, length-set}
 use Rattle.lists.specs.Lists.{indicator, at, Tabled}
-use Rattle.lists.specs.Below.{anyBelow}
 use Rattle.lists.specs.Tests.{same-test, and-left, and-right, eqb-self}
 use Rattle.lists.specs.Loops.{tabled-more}
-use Rattle.lists.specs.SumsBelow.{countBelow-le}
 use Rattle.lists.specs.JoinBelow.{length-joinBelow}
-use Rattle.lists.specs.ListBelow.{length-listBelow, listBelow-same, listBelow-none}
 use Rattle.table_spec.specs.Limits.{maxBuses}
 use Rattle.row_builder.specs.GrowingRows.{AllZero, GrowingRows}
 use Rattle.row_builder.specs.GrowingLaws.{length-grown, growing-same, growing-fits, growing-next}
 use Rattle.file_spec.specs.FileBytes.{firstEnd, secondEnd}
-use Rattle.file_spec.specs.Records.{joined, neighbours, repeats}
-use Rattle.file_spec.specs.RecordPairs.{joined-next, joined-again, neighbours-grows, pairCount-le, rows-length}
-use Rattle.file_spec.specs.OrderedRecords.{OrderedRecords, repeats-by, repeats-facts, rows-grow}
+use Rattle.file_spec.specs.Records.{neighbours, repeats}
+use Rattle.file_spec.specs.RecordPairs.{neighbours-none, neighbours-le, neighbours-again, neighbours-grows}
+use Rattle.file_spec.specs.OrderedRecords.{OrderedRecords, rows-le, repeats-by, repeats-facts, rows-grow}
 use Rattle.file_records.specs.RecordSteps.{equalsLast, NeighbourCounts}
 
--- no bus has more neighbours than there are buses
-neighbours-le : (n k : ℕ) (r : List ℕ) (i : ℕ) → length (neighbours n k r i) ≤ n
-unfolding neighbours
-neighbours-le n k r i = omega (arith, length-listBelow n (joined k r i), countBelow-le (joined k r i) n)
-
--- without records no bus has a neighbour
-pub neighbours-none : (n : ℕ) (r : List ℕ) (i : ℕ) → neighbours n 0 r i ≡ []
-unfolding neighbours joined anyBelow
-neighbours-none n r i = listBelow-none n
-
+-- without records every count is 0
 pub counts-none : (n : ℕ) (r : List ℕ) {counts : List ℕ} → AllZero counts → NeighbourCounts n 0 r counts
 counts-none n r z = record { size = z .size; each = λ i b. z .zero i ∙ sym (ap length (neighbours-none n r i)) }
 
@@ -43,16 +31,11 @@ neighbour-count-le {n} {k} {r} w {i} b = omega (arith, w .each i b, neighbours-l
 -- all rows together have fewer numbers than a place can count
 room : {n m : ℕ} {r : List ℕ} → OrderedRecords n m r → {rows : ℕ → List ℕ} {next all : List ℕ} → GrowingRows n (λ i. length (neighbours n m r i)) rows next all
     → length all < 65535
-room {n} {m} {r} g w =
-    omega (arith, w .wide, length-joinBelow n (neighbours n m r), rows-length n m r (g .ends), pairCount-le m r, g .lines)
+room {n} {m} {r} g w = omega (arith, w .wide, length-joinBelow n (neighbours n m r), rows-le g)
 
--- a record that names a pair again gives no bus a neighbour
-pub neighbours-again : (n k : ℕ) (r : List ℕ) → repeats r k ≡ true → (i : ℕ) → neighbours n k r i ≡ neighbours n (k + 1) r i
-unfolding neighbours
-neighbours-again n k r h i = sym (listBelow-same _ _ n (λ j z. joined-next k r i j ∙ joined-again k r i j h))
-
+-- a record that names a pair again changes none
 pub counts-again : {n k : ℕ} {r counts : List ℕ} → NeighbourCounts n k r counts → repeats r k ≡ true → NeighbourCounts n (k + 1) r counts
-counts-again {n} {k} {r} w h = record { size = w .size; each = λ i b. w .each i b ∙ ap length (neighbours-again n k r h i) }
+counts-again {n} {k} {r} w h = record { size = w .size; each = λ i b. w .each i b ∙ sym (ap length (neighbours-again n k r h i)) }
 
 module _ {n m : ℕ} {r : List ℕ} (g : OrderedRecords n m r) {k : ℕ} (l : k < m) where
   -- a record names a pair again exactly if it equals the one before it

@@ -15,8 +15,7 @@ use Rattle.table_spec.specs.Laid.{length-laid}
 use Rattle.row_builder.specs.GrowingRows.{RowStarts, GrowingRows}
 use Rattle.row_builder.specs.GrowingLaws.{growing-none}
 use Rattle.file_spec.specs.Records.{neighbours}
-use Rattle.file_spec.specs.RecordPairs.{pairCount-le, rows-length}
-use Rattle.file_spec.specs.OrderedRecords.{OrderedRecords}
+use Rattle.file_spec.specs.OrderedRecords.{OrderedRecords, rows-le}
 use Rattle.file_records.specs.RecordSteps.{NeighbourCounts}
 
 -- the neighbours that m records give n buses were counted
@@ -32,7 +31,7 @@ module _ {n m : ℕ} {r counts : List ℕ} (w : NeighbourCounts n m r counts) wh
   numbers-counted = counted n (omega arith) ∙ sym (length-joinBelow n rows)
 
   pub numbers-le : OrderedRecords n m r → sumBelow n (at counts) ≤ 2 * maxLines
-  numbers-le g = omega (arith, numbers-counted, rows-length n m r (g .ends), pairCount-le m r, g .lines)
+  numbers-le g = omega (arith, numbers-counted, rows-le g)
 
   pub laid-counted : length (laid n rows) ≡ n + 1 + sumBelow n (at counts)
   laid-counted = omega (arith, length-laid rows n, numbers-counted)

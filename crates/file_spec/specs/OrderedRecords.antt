@@ -8,7 +8,8 @@ use Prim.Native.Nat.{ℕ, zero, suc, _+_, _-_, _*_, _≤_, _<_}
 use native.Mathlib.Omega.{arith}
 use borrow.Author.Tests.{ltb-false, eqb-true, eqb-false, eq-eqb, ne-eqb, lt-ltb}
 use lib.Dec.{ltb, eqb}
-use Rattle.lists.specs.Below.{listBelow}
+use lib.ListN.{length}
+use Rattle.lists.specs.Below.{joinBelow}
 use Rattle.lists.specs.Tests.{split, fails, never-both, or-none, eqb-self, eqb-comm}
 use Rattle.lists.specs.Loops.{last-or, anyBelow-by, anyBelow-none}
 use Rattle.lists.specs.ListBelow.{listBelow-same, listBelow-more}
@@ -17,10 +18,10 @@ use Rattle.file_spec.specs.FileBytes.{firstEnd, secondEnd}
 use Rattle.file_spec.specs.SoundSections.{SoundEnds}
 use Rattle.file_spec.specs.RecordOrder.{turned, pairBelow, falls, outOfOrder}
 use Rattle.file_spec.specs.Records.{joins, joined, neighbours, repeats}
-use Rattle.file_spec.specs.RecordPairs.{joined-next, joined-at}
+use Rattle.file_spec.specs.RecordPairs.{joined-at, neighbours-next, pairCount-le, rows-length}
 
 -- a pair that is not below another
-pub pair-facts : (a b c d : ℕ) → pairBelow a b c d ≡ false → (c ≤ a) × (a ≡ c → d ≤ b)
+pair-facts : (a b c d : ℕ) → pairBelow a b c d ≡ false → (c ≤ a) × (a ≡ c → d ≤ b)
 unfolding pairBelow
 pair-facts a b c d h =
     let z = or-none (ltb a c) (eqb a c && ltb b d) h in
@@ -40,8 +41,12 @@ pub record OrderedRecords (n m : ℕ) (r : List ℕ) : Type 0 where
   pub order : outOfOrder m r ≡ false
 
 module _ {n m : ℕ} {r : List ℕ} (g : OrderedRecords n m r) where
+  -- all rows together have two numbers for each line at most
+  pub rows-le : length (joinBelow n (neighbours n m r)) ≤ 2 * maxLines
+  rows-le = omega (arith, rows-length n m r (g .ends), pairCount-le m r, g .lines)
+
   -- the lower bus stands first
-  pub lower-first : (k : ℕ) → k < m → firstEnd r k < secondEnd r k
+  lower-first : (k : ℕ) → k < m → firstEnd r k < secondEnd r k
   unfolding outOfOrder turned
   lower-first k l =
       let z = or-none (turned r k) (falls r k) (anyBelow-none (λ k. turned r k || falls r k) m (g .order) l) in
@@ -133,27 +138,23 @@ module _ {n m : ℕ} {r : List ℕ} (g : OrderedRecords n m r) where
     apart = ne-eqb c a (omega (arith, lower-first k b))
 
     -- so that each of the two goes behind the other's neighbours, and no other row changes
-    row-next : (i : ℕ) → neighbours n (k + 1) r i ≡ listBelow n (λ j. joined k r i j || joins r i j k)
-    unfolding neighbours
-    row-next i = listBelow-same _ _ n (λ j l. joined-next k r i j)
-
     first-row : neighbours n (k + 1) r a ≡ neighbours n k r a ++ (c ∷ [])
     unfolding neighbours joins
     first-row =
-        row-next a
+        neighbours-next n k r a
         ∙ listBelow-same _ _ n (λ j l. rw (eqb-self a, apart, and-false (eqb a j), or-false (eqb c j)))
         ∙ listBelow-more (joined k r a) c n (g .ends k b .1) (λ j l. first-low j)
 
     second-row : neighbours n (k + 1) r c ≡ neighbours n k r c ++ (a ∷ [])
     unfolding neighbours joins
     second-row =
-        row-next c
+        neighbours-next n k r c
         ∙ listBelow-same _ _ n (λ j l. rw (eqb-comm a c, apart, eqb-self c, and-true (eqb a j)))
         ∙ listBelow-more (joined k r c) a n (g .ends k b .0) (λ j l. second-low j)
 
     other-row : (i : ℕ) → eqb a i ≡ false → eqb c i ≡ false → neighbours n (k + 1) r i ≡ neighbours n k r i
     unfolding neighbours joins
-    other-row i e f = row-next i ∙ listBelow-same _ _ n (λ j l. rw (e, f, and-false (eqb a j), or-false (joined k r i j)))
+    other-row i e f = neighbours-next n k r i ∙ listBelow-same _ _ n (λ j l. rw (e, f, and-false (eqb a j), or-false (joined k r i j)))
 
     pub rows-grow : (i : ℕ) → let one = cond (eqb a i) (neighbours n k r i ++ (c ∷ [])) (neighbours n k r i) in
         cond (eqb c i) (one ++ (a ∷ [])) one ≡ neighbours n (k + 1) r i

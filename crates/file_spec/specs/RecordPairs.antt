@@ -1,6 +1,6 @@
 -- Laws of the pairs that records join.
 use mathlib.Core.Bool.{Bool, true, false, not, _&&_, _||_, and-comm, or-comm, or-false}
-use mathlib.Core.List.{List}
+use mathlib.Core.List.{List, []}
 use mathlib.Core.Logic.{_⊎_, inl, inr, ⊎-elim}
 use mathlib.Core.Path.{_≡_, sym, ap, ap₂, _∙_, fun-ext}
 use Prim.Native.Nat.{ℕ, zero, suc, _+_, _*_, _≤_, _<_}
@@ -9,13 +9,13 @@ use borrow.Author.Tests.{eqb-true, ne-eqb}
 use lib.Dec.{eqb}
 use lib.ListN.{length}
 use Rattle.lists.specs.Lists.{indicator}
-use Rattle.lists.specs.Below.{anyBelow, sumBelow, countBelow, joinBelow}
+use Rattle.lists.specs.Below.{anyBelow, sumBelow, countBelow, joinBelow, listBelow}
 use Rattle.lists.specs.Tests.{split, and-left, and-right, or-cases}
 use Rattle.lists.specs.Sums.{indicator-grows, indicator-or}
 use Rattle.lists.specs.Loops.{anyBelow-at, anyBelow-by, anyBelow-next, sumBelow-next}
 use Rattle.lists.specs.SumsBelow.{sumBelow-same, sumBelow-add, sumBelow-le, sumBelow-const, countBelow-le, countBelow-one}
 use Rattle.lists.specs.JoinBelow.{length-joinBelow}
-use Rattle.lists.specs.ListBelow.{length-listBelow}
+use Rattle.lists.specs.ListBelow.{length-listBelow, listBelow-same, listBelow-none}
 use Rattle.file_spec.specs.FileBytes.{firstEnd, secondEnd}
 use Rattle.file_spec.specs.SoundSections.{SoundEnds}
 use Rattle.file_spec.specs.Records.{joins, joined, neighbours, repeats, pairCount}
@@ -59,6 +59,28 @@ joins-own r i j k h =
 pub joined-again : (k : ℕ) (r : List ℕ) (i j : ℕ) → repeats r k ≡ true → (joined k r i j || joins r i j k) ≡ joined k r i j
 joined-again k r i j h = split (joins r i j k) (λ e. rw (joins-own r i j k e ∙ h)) (λ e. rw e (or-false (joined k r i j)))
 
+-- ---- the neighbours that records give a bus
+
+-- without records none
+pub neighbours-none : (n : ℕ) (r : List ℕ) (i : ℕ) → neighbours n 0 r i ≡ []
+unfolding neighbours joined anyBelow
+neighbours-none n r i = listBelow-none n
+
+-- no more than there are buses
+pub neighbours-le : (n k : ℕ) (r : List ℕ) (i : ℕ) → length (neighbours n k r i) ≤ n
+unfolding neighbours
+neighbours-le n k r i = omega (arith, length-listBelow n (joined k r i), countBelow-le (joined k r i) n)
+
+-- by record k too, those that it joins to the bus
+pub neighbours-next : (n k : ℕ) (r : List ℕ) (i : ℕ) → neighbours n (k + 1) r i ≡ listBelow n (λ j. joined k r i j || joins r i j k)
+unfolding neighbours
+neighbours-next n k r i = listBelow-same _ _ n (λ j l. joined-next k r i j)
+
+-- which are none if it names a pair again
+pub neighbours-again : (n k : ℕ) (r : List ℕ) → repeats r k ≡ true → (i : ℕ) → neighbours n (k + 1) r i ≡ neighbours n k r i
+unfolding neighbours
+neighbours-again n k r h i = neighbours-next n k r i ∙ listBelow-same _ _ n (λ j l. joined-again k r i j h)
+
 -- more records give a bus no fewer neighbours
 pub neighbours-grows : (n k m : ℕ) (r : List ℕ) (i : ℕ) → k ≤ m → length (neighbours n k r i) ≤ length (neighbours n m r i)
 unfolding neighbours joined
@@ -71,7 +93,9 @@ neighbours-grows n k m r i l =
           indicator-grows (joined k r i j) (joined m r i j) (λ h. let w = anyBelow-at (joins r i j) k h in anyBelow-by (joins r i j) m (w .0) (omega (arith, w .1)) (w .2)),
     )
 
--- there are no more different pairs than records
+-- ---- how many different pairs there are
+
+-- no more than records
 pub pairCount-le : (m : ℕ) (r : List ℕ) → pairCount m r ≤ m
 unfolding pairCount
 pairCount-le m r = countBelow-le (λ k. not (repeats r k)) m

@@ -12,7 +12,8 @@ use Rattle.table_spec.specs.Limits.{maxBuses}
 use Rattle.row_builder.specs.GrowingRows.{GrowingRows}
 use Rattle.row_builder.specs.GrowingLaws.{growing-same, growing-done}
 use Rattle.file_spec.specs.Records.{neighbours, repeats}
-use Rattle.file_records.proofs.RecordLaws.{neighbours-none, repeats-last, neighbours-again, first-bus, second-bus, first-fits, first-grown, second-fits, second-grown}
+use Rattle.file_spec.specs.RecordPairs.{neighbours-none, neighbours-again}
+use Rattle.file_records.proofs.RecordLaws.{repeats-last, first-bus, second-bus, first-fits, first-grown, second-fits, second-grown}
 use Rattle.file_records.proofs.fill_rows.Statement.{statement}
 use Rattle.file_records.proofs.fill_rows.Tie as tie
 
@@ -82,7 +83,7 @@ loop-again c =
     let one = first-grown g b e z (v .inv .1) (w .5 .ensures .0) (w .5 .ensures .1) in
     (omega arith, rw (w .14, w .15) (second-grown g b e z one (w .11 .ensures .0) (w .11 .ensures .1))))
     (λ w. let y = sym again ∙ passed (c .before .equals-last .ensures) (w .0 .left) in
-    (omega arith, rw (w .1, w .2) (growing-same (v .inv .1) _ (λ i _. neighbours-again _ _ _ y i))))
+    (omega arith, rw (w .1, w .2) (growing-same (v .inv .1) _ (λ i _. sym (neighbours-again _ _ _ y i)))))
     (c .if1 .came)
 
 same-length : tie.Need-same-length Inv-loop μ-loop
