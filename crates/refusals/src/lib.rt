@@ -33,6 +33,12 @@ pub enum Refusal {
     OutOfOrder,
 }
 
+// How many bytes a call wrote at the front of those lent, or why none.
+pub enum Written {
+    Bytes(usize),
+    Refused(Refusal),
+}
+
 impl Refusal {
     // The number that programs print and C callers are given.
     pub fn number(self) -> u8

@@ -4,18 +4,10 @@ use Prim.Native.Nat.{ℕ}
 use lib.Dec.{ltb}
 use lib.ListN.{length, drop}
 use Rattle.refusals.specs.declared.Refusal.the-variants.{NoSuchBus, TextTooShort}
-use Rattle.refusals.specs.Numbers.{numberOf}
-use Rattle.refusals.specs.Outcomes.{Outcome, gives, refuses, Cause, _⇒_, outcome, valuesOr}
+use Rattle.refusals.specs.Outcomes.{Outcome, Cause, _⇒_, outcome, valuesOr}
 use Rattle.table_spec.specs.TableOutcomes.{onTable}
 use Rattle.share_spec.specs.Network.{Network}
-use Rattle.sheet.specs.declared.Written.{Written}
-use Rattle.sheet.specs.declared.Written.the-variants.{Bytes, Refused}
 use Rattle.sheet.specs.Sheet.{sheetLine}
-
--- the byte count, or the scope's number of the refusal
-abbrev pub outcomeOfWritten : Written → Outcome ℕ
-outcomeOfWritten (Bytes n) = gives n
-outcomeOfWritten (Refused r) = refuses (numberOf r)
 
 -- ---- any text
 

@@ -3,13 +3,14 @@ ghost use mathlib.Core.Path.{_≡_};
 ghost use Prim.Native.Nat.{suc, _+_, _≤_, _<_};
 ghost use lib.ListN.{length};
 ghost use Rattle.lists.specs.Lists.{WrittenAt};
+ghost use Rattle.refusals.specs.WrittenAnswer.{outcomeOfWritten};
 ghost use Rattle.table_spec.specs.Layout.{busCount};
 ghost use Rattle.table_spec.specs.Holds.{Holds};
 ghost use Rattle.share_spec.specs.Network.{denominator};
 ghost use Rattle.share_spec.specs.Formula.{numerator as numeratorOf};
 ghost use Rattle.two_way.specs.TwoWay.{networkOf};
 ghost use Rattle.sheet.specs.Sheet.{sheetLine};
-ghost use Rattle.sheet.specs.LineOutcomes.{outcomeOfWritten, textOutcome, textAfter, lineOutcome, lineAfter};
+ghost use Rattle.sheet.specs.LineOutcomes.{textOutcome, textAfter, lineOutcome, lineAfter};
 ghost use Rattle.sheet.specs.LineRoom.{longestLine};
 use bytes::copy;
 use fraction::reduce;
@@ -18,16 +19,11 @@ use network::table::bus_count;
 use network::table::lines;
 use network::table::need;
 use network::table::neighbours;
+pub use refusals::Written;
 use scorer::denominator;
 use scorer::share_of;
 use table_check::holds;
 use text::fill_template;
-
-// How many bytes of text were written, or why none were.
-pub enum Written {
-    Bytes(usize),
-    Refused(Refusal),
-}
 
 // Bytes that are enough for every line of a sheet.
 pub const LONGEST_LINE: usize = 49;

@@ -1,7 +1,7 @@
 -- `share_sheet_c::share_sheet_line` meets its contract.
 use borrow.Author.Needs.{needs}
 use mathlib.Core.Path.{ap}
-use Rattle.sheet.specs.LineOutcomes.{outcomeOfWritten}
+use Rattle.refusals.specs.WrittenAnswer.{outcomeOfWritten}
 use Rattle.share_sheet_c.specs.StatusLaws.{refused, accepted}
 use Rattle.share_sheet_c.proofs.share_sheet_line.Statement.{statement}
 use Rattle.share_sheet_c.proofs.share_sheet_line.Tie as tie
