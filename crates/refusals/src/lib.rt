@@ -31,6 +31,8 @@ pub enum Refusal {
     TextTooShort,
     // A record names its higher bus first, or is below the record before it.
     OutOfOrder,
+    // Too few bytes are lent for the network file.
+    BytesTooShort,
 }
 
 // How many bytes a call wrote at the front of those lent, or why none.
@@ -59,6 +61,7 @@ impl Refusal {
             Refusal::NoSuchBus => 13,
             Refusal::TextTooShort => 14,
             Refusal::OutOfOrder => 15,
+            Refusal::BytesTooShort => 16,
         }
     }
 }
