@@ -1,0 +1,4 @@
+-- What the file writer answers and writes: definitions, computed examples, then laws and claims.
+pub mod FileOf
+pub mod WriteOutcome
+pub mod WriteExamples
