@@ -11,14 +11,14 @@ use lib.Dec.{ltb, eqb}
 use lib.ListN.{length}
 use Rattle.lists.specs.Below.{joinBelow}
 use Rattle.lists.specs.Tests.{split, fails, never-both, or-none, eqb-self, eqb-comm}
-use Rattle.lists.specs.Loops.{last-or, anyBelow-by, anyBelow-none, anyBelow-fails}
+use Rattle.lists.specs.Loops.{last-or, anyBelow-none, anyBelow-fails}
 use Rattle.lists.specs.ListBelow.{listBelow-same, listBelow-more}
 use Rattle.table_spec.specs.Limits.{maxBuses, maxLines}
 use Rattle.file_spec.specs.FileBytes.{firstEnd, secondEnd}
 use Rattle.file_spec.specs.SoundSections.{SoundEnds}
 use Rattle.file_spec.specs.RecordOrder.{turned, pairBelow, falls, outOfOrder}
 use Rattle.file_spec.specs.Records.{joins, joined, neighbours, repeats}
-use Rattle.file_spec.specs.RecordPairs.{joined-at, neighbours-next, pairCount-le, rows-length}
+use Rattle.file_spec.specs.RecordPairs.{joined-at, joined-by, neighbours-next, pairCount-le, rows-length}
 
 -- a pair that is not below another
 pair-facts : (a b c d : ℕ) → pairBelow a b c d ≡ false → (c ≤ a) × (a ≡ c → d ≤ b)
@@ -29,9 +29,8 @@ pair-facts a b c d h =
 
 -- a record that has the ends of an earlier one names its pair again
 pub repeats-by : (r : List ℕ) (i k : ℕ) → i < k → firstEnd r i ≡ firstEnd r k → secondEnd r i ≡ secondEnd r k → repeats r k ≡ true
-unfolding repeats joined joins
-repeats-by r i k l e f =
-    anyBelow-by (joins r (firstEnd r k) (secondEnd r k)) k i l (rw (eq-eqb (firstEnd r i) (firstEnd r k) e, eq-eqb (secondEnd r i) (secondEnd r k) f))
+unfolding repeats
+repeats-by r i k l e f = joined-by k r (firstEnd r k) (secondEnd r k) i l e f
 
 -- a pair of buses as one number: pairs ascend by first bus, then by second, as these numbers do
 abbrev pub pairNumber : ℕ → ℕ → ℕ

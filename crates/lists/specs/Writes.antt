@@ -9,7 +9,7 @@ use lib.ListN.{length, set, take, drop, length-append, length-take, length-drop,
 use lib.Dec.{ltb}
 use lib.Seq.{drop-cons, append-snoc, set-at, take-at, drop-at, drop-append-add, drop-drop, length-take-le, take-set-le, drop-set-lt, take-all, ext-getD}
 use borrow.Author.Tests.{ltb-true, ltb-false}
-use Rattle.lists.specs.Lists.{at, part, Tabled, put}
+use Rattle.lists.specs.Lists.{at, part, Tabled, put, WrittenAt}
 use Rattle.lists.specs.Below.{mapBelow}
 use Rattle.lists.specs.Tests.{split}
 use Rattle.lists.specs.Places.{at-append, at-behind, at-drop, part-append, take-next}
@@ -110,6 +110,10 @@ put-tabled t n f {u} h e first rest =
     (λ x l. split (ltb x n)
     (λ a. let b = ltb-true x n a in first x b ∙ sym (at-front t vs x (omega arith) ∙ mapBelow-at f n b))
     (λ a. let b = ltb-false x n a in rest x b ∙ sym (behind-front t vs x (omega arith))))
+
+-- what was written at the front of t, up to place n, is the first n entries there
+pub written-front : (vs t : List ℕ) {n : ℕ} {u : List ℕ} → WrittenAt vs 0 t n u → take n u ≡ vs
+written-front vs t {n} w = ap (take n) (w .1 ∙ put-front t vs) ∙ take-at vs _ n (sym (w .0 ∙ zero-add (length vs)))
 
 -- a loop that stores: so far vs stands in u from place i on, and j is the next place
 module _ (t : List ℕ) (i : ℕ) (vs : List ℕ) {u : List ℕ} {j : ℕ} (w : u ≡ put t i vs) (e : j ≡ i + length vs) where

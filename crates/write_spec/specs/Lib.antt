@@ -5,3 +5,5 @@ pub mod RoundTrip
 pub mod WriteExamples
 pub mod WrittenBytes
 pub mod PairLaws
+pub mod WriteDue
+pub mod ReadBack

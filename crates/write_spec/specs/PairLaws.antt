@@ -17,8 +17,8 @@ use Rattle.lists.specs.JoinBelow.{length-joinBelow, joinBelow-same, joinBelow-t
 use Rattle.lists.specs.ListBelow.{has-listBelow, listBelow-in, listBelow-ascends, joinBelow-passing}
 use Rattle.table_spec.specs.Limits.{maxBuses}
 use Rattle.table_spec.specs.Layout.{busCount, needs, row, lines}
-use Rattle.table_spec.specs.Holds.{ValidRow, Holds}
-use Rattle.table_spec.specs.Rows.{valid-below, length-needs}
+use Rattle.table_spec.specs.Holds.{Holds}
+use Rattle.table_spec.specs.Rows.{valid-below, length-needs, row-valid}
 use Rattle.file_spec.specs.OrderedRecords.{pairNumber}
 use Rattle.write_spec.specs.FileOf.{recordOf, pairRecords, fileOf}
 use Rattle.write_spec.specs.WrittenBytes.{listed, length-listed, length-sections}
@@ -89,16 +89,12 @@ module _ (t : List ℕ) (w : Holds t) where
   abbrev n : ℕ
   n = busCount t
 
-  pub valid-row : (i : ℕ) → i < n → ValidRow n i (row t i)
-  unfolding row
-  valid-row = w .shape .rows .valid
-
   pub mirror : (i j : ℕ) → i < n → j < n → has j (row t i) ≡ has i (row t j)
   unfolding row
   mirror = w .mirrored
 
   pub neighbour-below : (i j : ℕ) → i < n → has j (row t i) ≡ true → j < n
-  neighbour-below i j b h = valid-below (valid-row i b) j (has-in j (row t i) h)
+  neighbour-below i j b h = valid-below (row-valid (w .shape) i b) j (has-in j (row t i) h)
 
   -- its pairs are as many as its lines, which count each at its higher bus
   counted : sumBelow n (λ i. countBelow n (λ j. ltb i j && has j (row t i))) ≡ lines t
