@@ -11,7 +11,7 @@ use lib.ListN.{length}
 use borrow.Author.Tests.{eqb-true, eqb-false, ltb-true, ltb-false, lt-ltb, le-ltb}
 use Rattle.lists.specs.Lists.{indicator, sumBy, count, _∈_, has, Once}
 use Rattle.lists.specs.Below.{sumBelow, countBelow, largestBelow, joinBelow, mapBelow, range}
-use Rattle.lists.specs.Tests.{split}
+use Rattle.lists.specs.Tests.{split, passes}
 use Rattle.lists.specs.Sums.{indicator-le, sumBy-append, sumBy-add, sumBy-ones}
 use Rattle.lists.specs.Counts.{count-append, sumBy-cong-in, sumBy-single, sumBy-part}
 use Rattle.lists.specs.Loops.{last-or, sumBelow-next}
@@ -97,6 +97,15 @@ countBelow-cut p {k} (suc n) l =
     ⊎-elim
     (λ e. sumBelow-same _ _ (suc n) (λ i h. ap (λ b. indicator (b && p i)) (lt-ltb i k (omega (arith, e)))) ∙ sym (ap (λ m. countBelow m p) e))
     (λ h. omega (arith, countBelow-cut p n (le-of-suc-le-suc h), ap (λ b. indicator (b && p n)) (le-ltb n k (le-of-suc-le-suc h)))) (eq-or-lt-of-le l)
+
+-- where as many pass as there are, each does
+pub countBelow-all : (p : ℕ → Bool) (n : ℕ) {i : ℕ} → countBelow n p ≡ n → i < n → p i ≡ true
+unfolding sumBelow
+countBelow-all p zero e l = absurd (not-suc-le-zero l)
+countBelow-all p (suc n) e l =
+    ⊎-elim
+    (λ q. rw q (passes (p n) (λ f. omega (arith, e, countBelow-le p n, ap indicator f))))
+    (λ h. countBelow-all p n (omega (arith, e, countBelow-le p n, indicator-le (p n))) h) (last-or l)
 
 -- exactly one number below n is k
 pub countBelow-one : (k n : ℕ) → k < n → countBelow n (eqb k) ≡ 1

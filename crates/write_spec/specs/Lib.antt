@@ -7,3 +7,4 @@ pub mod WrittenBytes
 pub mod PairLaws
 pub mod WriteDue
 pub mod ReadBack
+pub mod GivenBack

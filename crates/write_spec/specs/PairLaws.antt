@@ -24,7 +24,7 @@ use Rattle.write_spec.specs.FileOf.{recordOf, pairRecords, fileOf}
 use Rattle.write_spec.specs.WrittenBytes.{listed, length-listed, length-sections}
 
 -- is this the number of a pair of neighbours, by these rows, its lower bus first?
-abbrev isPair : (ℕ → List ℕ) → ℕ → Bool
+abbrev pub isPair : (ℕ → List ℕ) → ℕ → Bool
 isPair rows c = ltb (c / maxBuses) (c % maxBuses) && has (c % maxBuses) (rows (c / maxBuses))
 
 -- the numbers of all pairs of n buses
