@@ -123,6 +123,9 @@ module _ (t : List ℕ) (i : ℕ) (vs : List ℕ) {u : List ℕ} {j : ℕ} (w : 
   pub stored-list : (ws : List ℕ) → i ≤ length t → put u j ws ≡ put t i (vs ++ ws)
   stored-list ws h = ap₂ (λ l n. put l n ws) w e ∙ put-put t i vs ws h
 
+pub written-none : (t : List ℕ) (i : ℕ) → WrittenAt [] i t i t
+written-none t i = (sym (add-zero i), sym (put-none t i))
+
 -- what is written right behind what was written joins it
 pub written-append : (t : List ℕ) (i : ℕ) (vs ws : List ℕ) {u v : List ℕ} {j k : ℕ} → i ≤ length t → WrittenAt vs i t j u → WrittenAt ws j u k v → WrittenAt (vs ++ ws) i t k v
 written-append t i vs ws h a b = (omega (arith, a .0, b .0, length-append vs ws), b .1 ∙ stored-list t i vs (a .1) (a .0) ws h)
@@ -131,7 +134,7 @@ written-append t i vs ws h a b = (omega (arith, a .0, b .0, length-append vs ws)
 module _ (f : ℕ → List ℕ) (t : List ℕ) (i : ℕ) where
   pub written-start : WrittenAt (joinBelow 0 f) i t i t
   unfolding joinBelow
-  written-start = (sym (add-zero i), sym (put-none t i))
+  written-start = written-none t i
 
   module _ {k j : ℕ} {u : List ℕ} (w : WrittenAt (joinBelow k f) i t j u) where
     -- code has the next list as x
