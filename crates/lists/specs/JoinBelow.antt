@@ -84,6 +84,13 @@ joinBelow-at f (suc n) rest {i} h =
     (λ e. rw e (ap (take (length (f n))) (drop-at (joinBelow n f) (f n ++ rest) (length (joinBelow n f)) refl) ∙ take-at (f n) rest (length (f n)) refl))
     (λ l. joinBelow-at f n (f n ++ rest) l) (last-or h)
 
+-- so do its entries
+pub at-joinBelow : (f : ℕ → List ℕ) (n : ℕ) {i : ℕ} → i < n → (j : ℕ) → j < length (f i) → at (joinBelow n f) (length (joinBelow i f) + j) ≡ at (f i) j
+at-joinBelow f n {i} h j b =
+    let s = length (joinBelow i f) in
+    sym (at-take (length (f i)) (drop s (joinBelow n f)) j b ∙ at-drop s (joinBelow n f) j)
+    ∙ ap (λ l. at l j) (ap (λ l. take (length (f i)) (drop s l)) (sym (append-nil (joinBelow n f))) ∙ joinBelow-at f n [] h)
+
 -- and a list in which each of them stands there, entry by entry, and nothing else, is the lists joined
 pub joinBelow-by : (sizes : ℕ → ℕ) (f : ℕ → List ℕ) (n : ℕ) {l : List ℕ} → ((i : ℕ) → i < n → length (f i) ≡ sizes i) → length l ≡ sumBelow n sizes
     → ((i j : ℕ) → i < n → j < length (f i) → at l (sumBelow i sizes + j) ≡ at (f i) j) → l ≡ joinBelow n f

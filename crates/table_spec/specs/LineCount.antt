@@ -17,7 +17,7 @@ use Rattle.table_spec.specs.Rows.{row-length, valid-once, valid-below, v
 
 module _ (n : ℕ) (s l : List ℕ) (w : SoundRows n s l) where
   -- a row starts where the rows before it end
-  start-sum : (i : ℕ) → i ≤ n → at s i ≡ sumBelow i (λ a. length (rowAt s l a))
+  pub start-sum : (i : ℕ) → i ≤ n → at s i ≡ sumBelow i (λ a. length (rowAt s l a))
   unfolding sumBelow
   start-sum zero b = w .first
   start-sum (suc i) b =

@@ -1,4 +1,7 @@
 -- What the file writer answers and writes: definitions, computed examples, then laws and claims.
 pub mod FileOf
 pub mod WriteOutcome
+pub mod RoundTrip
 pub mod WriteExamples
+pub mod WrittenBytes
+pub mod PairLaws

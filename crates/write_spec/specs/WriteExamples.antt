@@ -1,9 +1,8 @@
 -- Files of the scope's Path and of other networks, computed.
-use mathlib.Core.Bool.{true}
 use mathlib.Core.List.{List, [], _∷_, _++_, map}
 use mathlib.Core.Path.{_≡_, refl}
 use Prim.Native.Nat.{ℕ}
-use lib.ListN.{length, replicate}
+use lib.ListN.{replicate}
 use Rattle.lists.specs.Lists.{at, put}
 use Rattle.lists.specs.Below.{allBelow, sumBelow, joinBelow}
 use Rattle.refusals.specs.Outcomes.{gives, refuses}
