@@ -1,0 +1,2 @@
+pub mod FileWriting
+pub mod FileDue
