@@ -19,14 +19,17 @@ write-word-requires : tie.Need-write-word-requires
 write-word-requires c κs =
     let s = c .before .before .before .before in (c .before .bus-count .ensures .1, omega (arith, s .pre .1, length-fileOf _ (s .pre .0)))
 
--- the bus count is written, and behind it there is space for the rest
+-- the bus count is written: the needs follow at place 2, and there is space for the rest
 module _ (c : tie.After-write-word) where
   abbrev start : tie.Start
   start = c .before .before .before .before .before
 
-  rest-fits : let t = start .args .table .now in c .write-word .result + busCount t + 2 + 4 * lines t ≤ length (c .write-word .last .1 .0)
+  needs-place : c .write-word .result ≡ 2
   unfolding word
-  rest-fits = omega (arith, c .write-word .ensures .0, c .write-word .kept .1 .0, length-fileOf _ (start .pre .0), start .pre .1)
+  needs-place = c .write-word .ensures .0
+
+  rest-fits : let t = start .args .table .now in 2 + busCount t + 2 + 4 * lines t ≤ length (c .write-word .last .1 .0)
+  rest-fits = omega (arith, c .write-word .kept .1 .0, length-fileOf _ (start .pre .0), start .pre .1)
 
 -- the needs were read
 needs-counted : (c : tie.After-needs) → length (c .needs .result .now) ≡ busCount (start (c .before .before .before) .args .table .now)
@@ -35,28 +38,30 @@ needs-counted c = ap length (c .needs .ensures) ∙ length-needs _ (start (c .be
 write-needs-requires : tie.Need-write-needs-requires
 write-needs-requires c κs =
     let w = c .before .before .before .before in
-    (subst NeedsInRange (sym (c .before .needs .ensures)) (holds-needs _ (start w .pre .0)), omega (arith, rest-fits w, needs-counted (c .before)))
+    (subst NeedsInRange (sym (c .before .needs .ensures)) (holds-needs _ (start w .pre .0)), omega (arith, needs-place w, rest-fits w, needs-counted (c .before)))
 
--- the needs are written, and behind them there is space for the rest
+-- they are written: the number of lines follows behind them
 module _ (c : tie.After-write-needs) where
   abbrev counted : tie.After-write-word
   counted = c .before .before .before .before .before
 
-  lines-fit : c .write-needs .result + 2 + 4 * lines (start counted .args .table .now) ≤ length (c .write-needs .last .1 .0)
-  lines-fit = omega (arith, c .write-needs .ensures .0, c .write-needs .kept .1 .0, rest-fits counted, needs-counted (c .before .before))
+  lines-place : c .write-needs .result ≡ 2 + busCount (start counted .args .table .now)
+  lines-place = omega (arith, c .write-needs .ensures .0, needs-place counted, needs-counted (c .before .before))
 
 write-word-requires-2 : tie.Need-write-word-requires-2
 write-word-requires-2 c κs =
     let v = c .before .before .before .before in
-    (omega (arith, c .before .lines .ensures, lines-le _ (start (counted v) .pre .0)), omega (arith, lines-fit v))
+    let w = counted v in
+    (omega (arith, c .before .lines .ensures, lines-le _ (start w .pre .0)), omega (arith, lines-place v, v .write-needs .kept .1 .0, rest-fits w))
 
 write-pairs-requires : tie.Need-write-pairs-requires
 unfolding word
 write-pairs-requires c κs =
     let m = c .before .before .before in
     let v = m .before .before .before .before .before in
-    let held = start (counted v) .pre .0 in
-    (held, omega (arith, m .write-word2 .ensures .0, m .write-word2 .kept .1 .0, lines-fit v, length-pairRecords _ held))
+    let w = counted v in
+    let held = start w .pre .0 in
+    (held, omega (arith, m .write-word2 .ensures .0, lines-place v, m .write-word2 .kept .1 .0, v .write-needs .kept .1 .0, rest-fits w, length-pairRecords _ held))
 
 returns : tie.Need-returns
 returns c =

@@ -12,12 +12,12 @@ use Rattle.writer.proofs.write_pair.Tie as tie
 
 returns : tie.Need-returns
 unfolding recordAbove
-returns c = let a = c .before .before .args in rw (le-ltb (a .bus) (a .neighbour) (c .if1 .taken)) (written-none _ _)
+returns c = let a = c .before .before .args in rw (le-ltb (a .bus) (a .neighbour) (omega arith)) (written-none _ _)
 
 -- the neighbour is above the bus
 above : (c : tie.Else1) → let a = c .before .before .args in recordAbove (a .bus) (a .neighbour) ≡ recordOf (a .bus) (a .neighbour)
 unfolding recordAbove
-above c = let a = c .before .before .args in rw (lt-ltb (a .bus) (a .neighbour) (c .if1 .left))
+above c = let a = c .before .before .args in rw (lt-ltb (a .bus) (a .neighbour) (omega arith))
 
 write-word-requires : tie.Need-write-word-requires
 unfolding recordOf word
