@@ -1,15 +1,15 @@
 -- Numerators and lines, as code stores and writes them.
 use mathlib.Core.List.{List, _++_}
-use mathlib.Core.Path.{_≡_, sym, ap, _∙_}
+use mathlib.Core.Path.{_≡_, sym, ap, subst, _∙_}
 use Prim.Native.Nat.{ℕ, suc, _+_, _≤_, zero-le}
 use native.Mathlib.Numerals.{add-one}
 use native.Mathlib.Omega.{arith}
-use lib.ListN.{length, length-append}
+use lib.ListN.{length}
 use Rattle.lists.specs.Lists.{at, put, WrittenAt}
 use Rattle.lists.specs.Below.{joinBelow, mapBelow}
 use Rattle.lists.specs.Places.{at-append}
 use Rattle.lists.specs.JoinBelow.{length-mapBelow, mapBelow-at, joinBelow-first}
-use Rattle.lists.specs.Writes.{put-front, length-put, stored-list}
+use Rattle.lists.specs.Writes.{put-front, length-put, written-append}
 use Rattle.share_spec.specs.Network.{Network, denominator}
 use Rattle.share_spec.specs.Formula.{numerator}
 use Rattle.sheet.specs.Sheet.{sheetLine}
@@ -37,9 +37,7 @@ busLines N n = joinBelow n (λ v. sheetLine N (suc v))
 -- the heading was written at the front of x, which left u, and those of n buses behind it, from place a on; e is the place behind them
 pub all-written : (N : Network) (x : List ℕ) {u y : List ℕ} {a e n : ℕ} → WrittenAt (sheetLine N 0) 0 x a u → n ≡ N .buses → WrittenAt (busLines N n) a u e y
     → WrittenAt (wholeSheet N) 0 x e y
-all-written N x {n = n} first en rest =
+all-written N x {y = y} {e = e} {n = n} first en rest =
     let all : sheetLine N 0 ++ busLines N n ≡ wholeSheet N =
-    sym (joinBelow-first n (sheetLine N)) ∙ ap (λ k. joinBelow k (sheetLine N)) (sym (add-one n) ∙ ap (λ n. n + 1) en) in (
-      omega (arith, first .0, rest .0, ap length all, length-append (sheetLine N 0) (busLines N n)),
-      rest .1 ∙ stored-list x 0 (sheetLine N 0) (first .1) (first .0) (busLines N n) zero-le ∙ ap (put x 0) all,
-    )
+    sym (joinBelow-first n (sheetLine N)) ∙ ap (λ k. joinBelow k (sheetLine N)) (sym (add-one n) ∙ ap (λ n. n + 1) en) in
+    subst (λ text. WrittenAt text 0 x e y) all (written-append x 0 (sheetLine N 0) (busLines N n) zero-le first rest)

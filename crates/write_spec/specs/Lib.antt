@@ -2,7 +2,7 @@
 pub mod FileOf
 pub mod WriteOutcome
 pub mod RoundTrip
-pub mod WriteExamples
+pub mod FileExamples
 pub mod WrittenBytes
 pub mod PairLaws
 pub mod WriteDue

@@ -6,7 +6,7 @@ use mathlib.Core.Path.{_≡_, sym, ap, ap₂, subst, _∙_}
 use Prim.Native.Nat.{ℕ, _*_, _≤_, _<_}
 use native.Mathlib.Nat.{zero-add}
 use native.Mathlib.Omega.{arith}
-use borrow.Author.Tests.{ltb-true, ltb-false, not-false}
+use borrow.Author.Tests.{ltb-true, ltb-false}
 use lib.Dec.{ltb}
 use lib.ListN.{length, take}
 use Rattle.lists.specs.Lists.{has, put}
@@ -16,9 +16,8 @@ use Rattle.lists.specs.JoinBelow.{joinBelow-same}
 use Rattle.lists.specs.ListBelow.{listBelow-same, listBelow-members}
 use Rattle.lists.specs.Writes.{put-front, written-front}
 use Rattle.refusals.specs.Outcomes.{gives}
-use Rattle.refusals.specs.Causes.{no-cause}
 use Rattle.table_spec.specs.Layout.{busCount, needs, entries, startsAt, row, lines, tableEntries, tableOf}
-use Rattle.table_spec.specs.Holds.{holds, Holds}
+use Rattle.table_spec.specs.Holds.{Holds}
 use Rattle.table_spec.specs.Rows.{valid-below, valid-others, length-needs, row-valid, degree-le}
 use Rattle.table_spec.specs.Facts.{needs-test, holds-facts, holds-needs}
 use Rattle.table_spec.specs.LineCount.{length-rows, lines-le, entries-all}
@@ -34,10 +33,10 @@ use Rattle.file_spec.specs.OrderedRecords.{order-test}
 use Rattle.read_spec.specs.ReadOutcome.{networkCounts, readOutcome, fileTable, storedTable}
 use Rattle.read_spec.specs.ReadDecides.{read-accepts, table-stored}
 use Rattle.write_spec.specs.FileOf.{pairRecords, fileOf}
-use Rattle.write_spec.specs.WriteOutcome.{writeCauses, writeOutcome, bytesAfter}
+use Rattle.write_spec.specs.WriteOutcome.{writeOutcome, bytesAfter}
 use Rattle.write_spec.specs.RoundTrip.{ReadBack}
 use Rattle.write_spec.specs.WrittenBytes.{first-written, second-written, buses-written, needs-written, lines-written, records-written}
-use Rattle.write_spec.specs.WriteDue.{fitting}
+use Rattle.write_spec.specs.WriteDue.{held, fits, counted, fitting}
 use Rattle.write_spec.specs.PairLaws.{lower, upper, pairs-in, in-pairs, pairs-ascend, mirror, neighbour-below, length-pairs, records-pairs, length-pairRecords, length-fileOf}
 
 -- ---- what the records of a network's file say
@@ -188,7 +187,6 @@ module _ (t : List ℕ) (w : Holds t) where
 -- stores the table, into every slice x with so many entries
 pub read-back : (t x y : List ℕ) {bytes : ℕ} → writeOutcome t (length y) ≡ gives bytes → tableEntries (busCount t) (lines t) ≤ length x → ReadBack t (take bytes (bytesAfter t y)) x
 read-back t x y e room =
-    let z = no-cause (writeCauses t (length y)) (length (fileOf t)) e in
-    let h = not-false (holds t) (z .0 .0) in
-    let y′ = fitting t h y (ltb-false (length y) (length (fileOf t)) (z .0 .1 .0)) .1 in
-    subst (λ f. ReadBack t f x) (sym (written-front (fileOf t) y (z .1 ∙ sym (zero-add (length (fileOf t))), y′))) (file-read t (holds-facts t h) x room)
+    let h = held t (length y) e in
+    let front = written-front (fileOf t) y (counted t (length y) e ∙ sym (zero-add (length (fileOf t))), fitting t h y (fits t (length y) e) .1) in
+    subst (λ f. ReadBack t f x) (sym front) (file-read t (holds-facts t h) x room)

@@ -1,18 +1,20 @@
 -- How the writer comes out, and that the bytes of the largest file are enough for it.
 use mathlib.Core.Bool.{true}
 use mathlib.Core.List.{List}
-use mathlib.Core.Path.{_≡_, refl, sym}
+use mathlib.Core.Path.{_≡_, refl}
 use Prim.Native.Nat.{ℕ, _≤_}
 use native.Mathlib.Nat.{le-trans}
 use native.Mathlib.Omega.{arith}
+use borrow.Author.Tests.{ltb-false, not-false, le-ltb}
 use lib.ListN.{length}
 use Rattle.lists.specs.Lists.{put}
-use Rattle.refusals.specs.Outcomes.{Outcome, gives}
-use Rattle.refusals.specs.Due.{Due, both, accept, not-below}
+use Rattle.lists.specs.Tests.{or-none}
+use Rattle.refusals.specs.Outcomes.{Outcome, gives, Cause}
+use Rattle.refusals.specs.Causes.{no-cause, none-numbered}
+use Rattle.refusals.specs.Due.{Due, both}
 use Rattle.table_spec.specs.Limits.{maxBytes}
 use Rattle.table_spec.specs.Holds.{holds}
 use Rattle.table_spec.specs.Facts.{holds-facts}
-use Rattle.table_spec.specs.TableCauses.{on-held}
 use Rattle.table_spec.specs.LineCount.{lines-le}
 use Rattle.write_spec.specs.FileOf.{fileOf}
 use Rattle.write_spec.specs.WriteOutcome.{writeCauses, writeOutcome, bytesAfter}
@@ -23,10 +25,24 @@ pub write-due : (t x : List ℕ) {o : Outcome ℕ} {y : List ℕ} → Due (write
     → (o ≡ writeOutcome t (length x)) × (y ≡ bytesAfter t x)
 write-due t x d = both d
 
+-- where the writer accepts a slice, it holds a network, and its file fits
+module _ (t : List ℕ) (lent : ℕ) {bytes : ℕ} (e : writeOutcome t lent ≡ gives bytes) where
+  abbrev causes : List Cause
+  causes = writeCauses t lent
+
+  pub held : holds t ≡ true
+  held = not-false (holds t) (or-none _ _ (none-numbered 11 causes (no-cause causes (length (fileOf t)) e .0)) .0)
+
+  pub fits : length (fileOf t) ≤ lent
+  fits = ltb-false lent (length (fileOf t)) (or-none _ _ (none-numbered 16 causes (no-cause causes (length (fileOf t)) e .0)) .0)
+
+  pub counted : bytes ≡ length (fileOf t)
+  counted = no-cause causes (length (fileOf t)) e .1
+
 module _ (t : List ℕ) (h : holds t ≡ true) where
   -- so a file that fits is written
   pub fitting : (x : List ℕ) → length (fileOf t) ≤ length x → (writeOutcome t (length x) ≡ gives (length (fileOf t))) × (bytesAfter t x ≡ put x 0 (fileOf t))
-  fitting x l = let d = write-due t x (on-held h (not-below refl refl l (accept refl refl))) in (sym (d .0), sym (d .1))
+  fitting x l = rw (h, le-ltb (length x) (length (fileOf t)) l) (refl, refl)
 
   -- EVERY FILE FITS: none has more bytes than the largest that Read accepts
   pub file-fits : length (fileOf t) ≤ maxBytes
