@@ -8,3 +8,4 @@ pub mod PairLaws
 pub mod WriteDue
 pub mod ReadBack
 pub mod GivenBack
+pub mod BeyondFile
