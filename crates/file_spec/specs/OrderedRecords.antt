@@ -6,19 +6,19 @@ use mathlib.Core.Logic.{⊎-elim}
 use mathlib.Core.Path.{_≡_, sym, _∙_}
 use Prim.Native.Nat.{ℕ, zero, suc, _+_, _-_, _*_, _≤_, _<_}
 use native.Mathlib.Omega.{arith}
-use borrow.Author.Tests.{ltb-false, eqb-true, eqb-false, eq-eqb, ne-eqb, lt-ltb}
+use borrow.Author.Tests.{ltb-true, ltb-false, eqb-true, eqb-false, eq-eqb, ne-eqb, lt-ltb, le-ltb}
 use lib.Dec.{ltb, eqb}
 use lib.ListN.{length}
 use Rattle.lists.specs.Below.{joinBelow}
 use Rattle.lists.specs.Tests.{split, fails, never-both, or-none, eqb-self, eqb-comm}
-use Rattle.lists.specs.Loops.{last-or, anyBelow-by, anyBelow-none}
+use Rattle.lists.specs.Loops.{last-or, anyBelow-none, anyBelow-fails}
 use Rattle.lists.specs.ListBelow.{listBelow-same, listBelow-more}
 use Rattle.table_spec.specs.Limits.{maxBuses, maxLines}
 use Rattle.file_spec.specs.FileBytes.{firstEnd, secondEnd}
 use Rattle.file_spec.specs.SoundSections.{SoundEnds}
 use Rattle.file_spec.specs.RecordOrder.{turned, pairBelow, falls, outOfOrder}
 use Rattle.file_spec.specs.Records.{joins, joined, neighbours, repeats}
-use Rattle.file_spec.specs.RecordPairs.{joined-at, neighbours-next, pairCount-le, rows-length}
+use Rattle.file_spec.specs.RecordPairs.{joined-at, joined-by, neighbours-next, pairCount-le, rows-length}
 
 -- a pair that is not below another
 pair-facts : (a b c d : ℕ) → pairBelow a b c d ≡ false → (c ≤ a) × (a ≡ c → d ≤ b)
@@ -29,9 +29,30 @@ pair-facts a b c d h =
 
 -- a record that has the ends of an earlier one names its pair again
 pub repeats-by : (r : List ℕ) (i k : ℕ) → i < k → firstEnd r i ≡ firstEnd r k → secondEnd r i ≡ secondEnd r k → repeats r k ≡ true
-unfolding repeats joined joins
-repeats-by r i k l e f =
-    anyBelow-by (joins r (firstEnd r k) (secondEnd r k)) k i l (rw (eq-eqb (firstEnd r i) (firstEnd r k) e, eq-eqb (secondEnd r i) (secondEnd r k) f))
+unfolding repeats
+repeats-by r i k l e f = joined-by k r (firstEnd r k) (secondEnd r k) i l e f
+
+-- a pair of buses as one number: pairs ascend by first bus, then by second, as these numbers do
+abbrev pub pairNumber : ℕ → ℕ → ℕ
+pairNumber a b = a * maxBuses + b
+
+pair-test : (a b c d : ℕ) → b < maxBuses → d < maxBuses → pairNumber c d ≤ pairNumber a b → pairBelow a b c d ≡ false
+unfolding pairBelow
+pair-test a b c d lb ld h =
+    rw (le-ltb a c (omega arith)) (split (eqb a c) (λ e. let q = eqb-true a c e in rw e (le-ltb b d (omega arith))) (λ e. rw e))
+
+-- records of buses within the limit, the lower first, are in order where their pairs' numbers never fall
+pub order-test : (m : ℕ) (r : List ℕ) → ((k : ℕ) → k < m → (firstEnd r k < secondEnd r k) × (secondEnd r k < maxBuses))
+    → ((j k : ℕ) → j < k → k < m → pairNumber (firstEnd r j) (secondEnd r j) ≤ pairNumber (firstEnd r k) (secondEnd r k)) → outOfOrder m r ≡ false
+unfolding outOfOrder turned falls
+order-test m r lower grows =
+    anyBelow-fails (λ k. turned r k || falls r k) m λ k l.
+    let up = lower k l in
+    rw (le-ltb (secondEnd r k) (firstEnd r k) (omega (arith, up .0)))
+    (split (ltb 0 k)
+    (λ e. let p = ltb-true 0 k e in
+    rw e (pair-test _ _ _ _ (up .1) (lower (k - 1) (omega arith) .1) (grows (k - 1) k (omega arith) l)))
+    (λ e. rw e))
 
 -- m records of n buses, whose ends are sound and which are in order
 pub record OrderedRecords (n m : ℕ) (r : List ℕ) : Type 0 where
@@ -46,16 +67,16 @@ module _ {n m : ℕ} {r : List ℕ} (g : OrderedRecords n m r) where
   rows-le = omega (arith, rows-length n m r (g .ends), pairCount-le m r, g .lines)
 
   -- the lower bus stands first
-  lower-first : (k : ℕ) → k < m → firstEnd r k < secondEnd r k
+  pub lower-first : (k : ℕ) → k < m → firstEnd r k < secondEnd r k
   unfolding outOfOrder turned
   lower-first k l =
       let z = or-none (turned r k) (falls r k) (anyBelow-none (λ k. turned r k || falls r k) m (g .order) l) in
       let d : firstEnd r k ≡ secondEnd r k → ⊥ = g .ends k l .2 in
       omega (arith, d, ltb-false (secondEnd r k) (firstEnd r k) (z .0))
 
-  -- a record as one number, by which records ascend
+  -- the number of a record's pair, by which records ascend
   rank : ℕ → ℕ
-  rank k = firstEnd r k * maxBuses + secondEnd r k
+  rank k = pairNumber (firstEnd r k) (secondEnd r k)
 
   rank-next : (k : ℕ) → 0 < k → k < m → rank (k - 1) ≤ rank k
   unfolding outOfOrder falls rank
@@ -74,6 +95,16 @@ module _ {n m : ℕ} {r : List ℕ} (g : OrderedRecords n m r) where
       let h : i < suc (suc k) = omega arith in
       let e : suc k - 1 ≡ k = omega arith in
       ⊎-elim (λ q. rw q (omega arith)) (λ j. omega (arith, rank-grows i k (omega arith) (omega arith), rw e at (rank-next (suc k) (omega arith) b))) (last-or h)
+
+  -- and rise where no pair is named again
+  pub rank-rises : (i k : ℕ) → i < k → k < m → repeats r k ≡ false → pairNumber (firstEnd r i) (secondEnd r i) < pairNumber (firstEnd r k) (secondEnd r k)
+  unfolding rank
+  rank-rises i k l b new =
+      let h = rank-grows i k (omega arith) b in
+      let x = g .ends i (omega arith) .1 in
+      let y = g .ends k b .1 in
+      let d : rank i ≡ rank k → ⊥ = λ e. never-both (repeats-by r i k l (omega (arith, e, x, y, g .buses)) (omega (arith, e, x, y, g .buses))) new in
+      omega (arith, h, d)
 
   -- record i stands before record k: its first bus is no higher, nor its second where the first are equal
   before : (i k : ℕ) → i < k → k < m → (firstEnd r i ≤ firstEnd r k) × (firstEnd r i ≡ firstEnd r k → secondEnd r i ≤ secondEnd r k)

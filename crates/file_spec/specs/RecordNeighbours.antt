@@ -5,12 +5,12 @@ use mathlib.Core.Logic.{⊎-elim}
 use mathlib.Core.Path.{_≡_, sym, _∙_}
 use Prim.Native.Nat.{ℕ, _≤_, _<_}
 use native.Mathlib.Omega.{arith}
-use borrow.Author.Tests.{ltb-true, ltb-false}
+use borrow.Author.Tests.{ltb-true, ltb-false, le-ltb}
 use lib.Dec.{ltb}
 use lib.ListN.{length}
 use Rattle.lists.specs.Lists.{has}
 use Rattle.lists.specs.Tests.{split, fails}
-use Rattle.lists.specs.Loops.{anyBelow-none}
+use Rattle.lists.specs.Loops.{anyBelow-none, anyBelow-fails}
 use Rattle.lists.specs.ListBelow.{count-listBelow, has-listBelow, listBelow-in, listBelow-ascends}
 use Rattle.table_spec.specs.Limits.{maxDegree}
 use Rattle.table_spec.specs.Holds.{ValidRow}
@@ -56,3 +56,7 @@ module _ (n m : ℕ) (r : List ℕ) where
   pub neighbours-max-le : degreeTooHigh n m r ≡ false → (i : ℕ) → i < n → length (neighbours n m r i) ≤ maxDegree
   unfolding degreeTooHigh
   neighbours-max-le h i l = ltb-false maxDegree _ (anyBelow-none tooMany n h l)
+
+  pub degrees-test : ((i : ℕ) → i < n → length (neighbours n m r i) ≤ maxDegree) → degreeTooHigh n m r ≡ false
+  unfolding degreeTooHigh
+  degrees-test h = anyBelow-fails tooMany n (λ i l. le-ltb maxDegree (length (neighbours n m r i)) (h i l))

@@ -5,7 +5,7 @@ use mathlib.Core.Logic.{_⊎_, inl, inr, ⊎-elim}
 use mathlib.Core.Path.{_≡_, sym, ap, ap₂, _∙_, fun-ext}
 use Prim.Native.Nat.{ℕ, zero, suc, _+_, _*_, _≤_, _<_}
 use native.Mathlib.Omega.{arith}
-use borrow.Author.Tests.{eqb-true, ne-eqb}
+use borrow.Author.Tests.{eqb-true, eq-eqb, ne-eqb}
 use lib.Dec.{eqb}
 use lib.ListN.{length}
 use Rattle.lists.specs.Lists.{indicator}
@@ -48,6 +48,11 @@ joins-facts r i j k h =
 pub joined-at : (m : ℕ) (r : List ℕ) (i j : ℕ) → joined m r i j ≡ true → (k : ℕ) × (k < m) × EndsAre r i j k
 unfolding joined
 joined-at m r i j h = let w = anyBelow-at (joins r i j) m h in (w .0, w .1, joins-facts r i j (w .0) (w .2))
+
+-- and a record with these ends joins them
+pub joined-by : (m : ℕ) (r : List ℕ) (i j k : ℕ) → k < m → firstEnd r k ≡ i → secondEnd r k ≡ j → joined m r i j ≡ true
+unfolding joined joins
+joined-by m r i j k l e f = anyBelow-by (joins r i j) m k l (rw (eq-eqb (firstEnd r k) i e, eq-eqb (secondEnd r k) j f))
 
 -- a pair that record k joins is the record's own pair
 joins-own : (r : List ℕ) (i j k : ℕ) → joins r i j k ≡ true → joined k r i j ≡ repeats r k

@@ -2,15 +2,15 @@
 use mathlib.Core.List.{List, [], _∷_, _++_, map, map-append, append-assoc, append-nil}
 use mathlib.Core.Logic.{⊎-elim}
 use mathlib.Core.Path.{_≡_, refl, sym, ap, ap₂, subst, _∙_}
-use Prim.Native.Nat.{ℕ, zero, suc, _+_, _≤_, _<_}
-use native.Mathlib.Nat.{not-suc-le-zero, mul-one}
+use Prim.Native.Nat.{ℕ, zero, suc, _+_, _*_, _≤_, _<_}
+use native.Mathlib.Nat.{not-suc-le-zero, le-of-suc-le-suc, eq-or-lt-of-le, add-zero, add-suc, mul-one, zero-mul, suc-mul}
 use native.Mathlib.Omega.{arith}
-use lib.ListN.{length, take, drop, length-drop, take-append-drop, List·getD-append}
+use lib.ListN.{length, take, drop, length-append, length-drop, take-append-drop, List·getD-append}
 use lib.Seq.{getD-at, take-at, drop-at, length-take-le, ext-getD}
-use Rattle.lists.specs.Lists.{_∈_, at}
+use Rattle.lists.specs.Lists.{_∈_, at, Ascending}
 use Rattle.lists.specs.Below.{sumBelow, joinBelow, mapBelow, range}
 use Rattle.lists.specs.Sums.{sumBy-ones}
-use Rattle.lists.specs.Places.{at-take, at-drop, in-at, at-in}
+use Rattle.lists.specs.Places.{at-take, at-append, at-behind, at-drop, in-at, at-in}
 use Rattle.lists.specs.Loops.{last-or}
 use Rattle.lists.specs.SumsBelow.{sumBy-joinBelow, sumBelow-same, sumBelow-grows, sumBelow-next-le, sumBelow-const}
 
@@ -34,11 +34,40 @@ unfolding joinBelow
 joinBelow-first zero f = sym (append-nil (f 0))
 joinBelow-first (suc n) f = ap (λ l. l ++ f (suc n)) (joinBelow-first n f) ∙ append-assoc (f 0) _ _
 
+-- those of the first a numbers, then those of the b numbers from there on
+pub joinBelow-add : (a b : ℕ) (f : ℕ → List ℕ) → joinBelow (a + b) f ≡ joinBelow a f ++ joinBelow b (λ j. f (a + j))
+unfolding joinBelow
+joinBelow-add a zero f = ap (λ n. joinBelow n f) (add-zero a) ∙ sym (append-nil (joinBelow a f))
+joinBelow-add a (suc b) f =
+    ap (λ n. joinBelow n f) (add-suc a b) ∙ ap (λ l. l ++ f (a + b)) (joinBelow-add a b f) ∙ append-assoc (joinBelow a f) _ _
+
+-- so the lists of n times k numbers are n times those of k
+pub joinBelow-times : (n k : ℕ) (f : ℕ → List ℕ) → joinBelow (n * k) f ≡ joinBelow n (λ i. joinBelow k (λ j. f (i * k + j)))
+unfolding joinBelow
+joinBelow-times zero k f = ap (λ m. joinBelow m f) (zero-mul k)
+joinBelow-times (suc n) k f =
+    ap (λ m. joinBelow m f) (suc-mul n k) ∙ joinBelow-add (n * k) k f ∙ ap (λ l. l ++ joinBelow k (λ j. f (n * k + j))) (joinBelow-times n k f)
+
+-- and those of more numbers the same, where they have none
+pub joinBelow-more : (f : ℕ → List ℕ) (n k : ℕ) → n ≤ k → ((i : ℕ) → n ≤ i → f i ≡ []) → joinBelow k f ≡ joinBelow n f
+unfolding joinBelow
+joinBelow-more f n zero l h = let e : n ≡ 0 = omega arith in rw e
+joinBelow-more f n (suc k) l h =
+    ⊎-elim (λ e. rw e)
+    (λ g. ap₂ _++_ (joinBelow-more f n k (le-of-suc-le-suc g) h) (h k (le-of-suc-le-suc g)) ∙ append-nil (joinBelow n f)) (eq-or-lt-of-le l)
+
 -- lists of what agrees below n agree
 pub joinBelow-same : (f g : ℕ → List ℕ) (n : ℕ) → ((i : ℕ) → i < n → f i ≡ g i) → joinBelow n f ≡ joinBelow n g
 unfolding joinBelow
 joinBelow-same f g zero h = refl
 joinBelow-same f g (suc n) h = ap₂ _++_ (joinBelow-same f g n (λ i l. h i (omega arith))) (h n (omega arith))
+
+-- lists joined over the entries of a list, which is two
+pub joinBelow-append : (g : ℕ → List ℕ) (l m : List ℕ) → joinBelow (length (l ++ m)) (λ k. g (at (l ++ m) k)) ≡ joinBelow (length l) (λ k. g (at l k)) ++ joinBelow (length m) (λ k. g (at m k))
+joinBelow-append g l m =
+    ap (λ n. joinBelow n (λ k. g (at (l ++ m) k))) (length-append l m)
+    ∙ joinBelow-add (length l) (length m) _
+    ∙ ap₂ _++_ (joinBelow-same _ _ (length l) (λ k h. ap g (at-append l m k h))) (joinBelow-same _ _ (length m) (λ k h. ap g (at-behind l m k)))
 
 pub mapBelow-same : (f g : ℕ → ℕ) (n : ℕ) → ((i : ℕ) → i < n → f i ≡ g i) → mapBelow n f ≡ mapBelow n g
 unfolding mapBelow
@@ -54,6 +83,13 @@ joinBelow-at f (suc n) rest {i} h =
     ∙ ⊎-elim
     (λ e. rw e (ap (take (length (f n))) (drop-at (joinBelow n f) (f n ++ rest) (length (joinBelow n f)) refl) ∙ take-at (f n) rest (length (f n)) refl))
     (λ l. joinBelow-at f n (f n ++ rest) l) (last-or h)
+
+-- so do its entries
+pub at-joinBelow : (f : ℕ → List ℕ) (n : ℕ) {i : ℕ} → i < n → (j : ℕ) → j < length (f i) → at (joinBelow n f) (length (joinBelow i f) + j) ≡ at (f i) j
+at-joinBelow f n {i} h j b =
+    let s = length (joinBelow i f) in
+    sym (at-take (length (f i)) (drop s (joinBelow n f)) j b ∙ at-drop s (joinBelow n f) j)
+    ∙ ap (λ l. at l j) (ap (λ l. take (length (f i)) (drop s l)) (sym (append-nil (joinBelow n f))) ∙ joinBelow-at f n [] h)
 
 -- and a list in which each of them stands there, entry by entry, and nothing else, is the lists joined
 pub joinBelow-by : (sizes : ℕ → ℕ) (f : ℕ → List ℕ) (n : ℕ) {l : List ℕ} → ((i : ℕ) → i < n → length (f i) ≡ sizes i) → length l ≡ sumBelow n sizes
@@ -87,6 +123,11 @@ unfolding at
 mapBelow-entries l =
     let e = length-mapBelow (length l) (at l) in
     ext-getD 0 (mapBelow (length l) (at l)) l e (λ i h. mapBelow-at (at l) (length l) (omega arith))
+
+-- values that rise make a list that ascends
+pub mapBelow-ascends : (f : ℕ → ℕ) (n : ℕ) → ((j k : ℕ) → j < k → k < n → f j < f k) → Ascending (mapBelow n f)
+mapBelow-ascends f n h j k a b =
+    let l : k < n = omega (arith, length-mapBelow n f) in omega (arith, mapBelow-at f n {i = j} (omega arith), mapBelow-at f n l, h j k a l)
 
 pub in-mapBelow : (f : ℕ → ℕ) (n : ℕ) {i : ℕ} → i < n → f i ∈ mapBelow n f
 in-mapBelow f n {i} l =

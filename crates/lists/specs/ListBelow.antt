@@ -1,8 +1,8 @@
 -- Laws of the numbers below a bound that pass a test: exactly those, each once, ascending.
-use mathlib.Core.Bool.{Bool, true, false, cond, _&&_, _||_, or-false}
+use mathlib.Core.Bool.{Bool, true, false, cond, _&&_, _||_, or-false, and-false}
 use mathlib.Core.List.{List, [], _∷_, _++_, append-nil}
 use mathlib.Core.Logic.{⊎-elim}
-use mathlib.Core.Path.{_≡_, refl, sym, ap, _∙_}
+use mathlib.Core.Path.{_≡_, refl, sym, ap, ap₂, _∙_}
 use Prim.Native.Nat.{ℕ, zero, suc, _+_, _*_, _<_}
 use native.Mathlib.Nat.{not-suc-le-zero, mul-comm}
 use native.Mathlib.Omega.{arith}
@@ -14,11 +14,11 @@ use Rattle.lists.specs.Lists.{indicator, count, _∈_, has, at, Ascendin
 use Rattle.lists.specs.Below.{countBelow, joinBelow, listBelow}
 use Rattle.lists.specs.Tests.{split, passes, fails, and-left, and-right, eqb-comm}
 use Rattle.lists.specs.Sums.{indicator-and}
-use Rattle.lists.specs.Counts.{count-append}
-use Rattle.lists.specs.Places.{in-at, ascending-same}
+use Rattle.lists.specs.Counts.{has-in, has-once, count-append}
+use Rattle.lists.specs.Places.{in-at, ascending-once, ascending-same}
 use Rattle.lists.specs.Loops.{last-or}
 use Rattle.lists.specs.SumsBelow.{sumBy-joinBelow, sumBelow-same, sumBelow-single}
-use Rattle.lists.specs.JoinBelow.{length-joinBelow, joinBelow-same}
+use Rattle.lists.specs.JoinBelow.{length-joinBelow, joinBelow-same, joinBelow-append}
 
 pub length-listBelow : (n : ℕ) (p : ℕ → Bool) → length (listBelow n p) ≡ countBelow n p
 unfolding listBelow
@@ -67,6 +67,30 @@ pub listBelow-ascends : (n : ℕ) (p : ℕ → Bool) → Ascending (listBelow n 
 unfolding listBelow joinBelow
 listBelow-ascends zero p j k u v = absurd (not-suc-le-zero v)
 listBelow-ascends (suc n) p j k u v = ascends-more (listBelow n p) n (p n) (λ k l. listBelow-in n p k l .0) (listBelow-ascends n p) j k u v
+
+-- what is joined over the numbers that pass is joined over the entries of their list
+pub joinBelow-passing : (g : ℕ → List ℕ) (p : ℕ → Bool) (n : ℕ) → joinBelow n (λ i. cond (p i) (g i) []) ≡ joinBelow (length (listBelow n p)) (λ k. g (at (listBelow n p) k))
+unfolding at listBelow joinBelow
+joinBelow-passing g p zero = refl
+joinBelow-passing g p (suc n) =
+    ap₂ _++_ (joinBelow-passing g p n) (split (p n) (λ e. rw e) (λ e. rw e)) ∙ sym (joinBelow-append g (listBelow n p) (cond (p n) (n ∷ []) []))
+
+-- a list that ascends and has just the numbers below n that pass
+pub listBelow-by : (n : ℕ) (p : ℕ → Bool) (l : List ℕ) → Ascending l → ((x : ℕ) → has x l ≡ (ltb x n && p x)) → listBelow n p ≡ l
+listBelow-by n p l up h =
+    ascending-same (listBelow n p) l (listBelow-ascends n p) up
+    (λ x. omega (arith, count-listBelow x n p, ap indicator (h x), has-once x l (ascending-once l up) 1))
+
+-- as an ascending list of numbers below n has those that stand in it
+pub listBelow-members : (n : ℕ) (l : List ℕ) → Ascending l → ((x : ℕ) → x ∈ l → x < n) → listBelow n (λ x. has x l) ≡ l
+listBelow-members n l up low =
+    listBelow-by n (λ x. has x l) l up (λ x. split (has x l) (λ e. rw (e, lt-ltb x n (low x (has-in x l e)))) (λ e. rw (e, and-false (ltb x n))))
+
+-- so what is joined over the numbers that stand in it is joined over its entries
+pub joinBelow-members : (l : List ℕ) (n : ℕ) (g : ℕ → List ℕ) → Ascending l → ((x : ℕ) → x ∈ l → x < n)
+    → joinBelow n (λ i. cond (has i l) (g i) []) ≡ joinBelow (length l) (λ k. g (at l k))
+joinBelow-members l n g up low =
+    joinBelow-passing g (λ x. has x l) n ∙ ap (λ m. joinBelow (length m) (λ k. g (at m k))) (listBelow-members n l up low)
 
 -- one number more passes, above all others: it stands behind them
 pub listBelow-more : (p : ℕ → Bool) (x n : ℕ) → x < n → ((j : ℕ) → j < n → p j ≡ true → j < x) → listBelow n (λ j. p j || eqb x j) ≡ listBelow n p ++ (x ∷ [])

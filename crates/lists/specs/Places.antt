@@ -7,8 +7,8 @@ use native.Mathlib.Nat.{zero-lt-suc, not-suc-le-zero, sub-zero, zero-sub, suc-su
 use native.Mathlib.Numerals.{add-one}
 use native.Mathlib.Omega.{arith}
 use lib.Dec.{eqb, ltb, leb}
-use lib.ListN.{length, set, replicate, take, drop, length-take, length-drop, List·getD-append}
-use lib.Seq.{getD-set-same, getD-set-other, take-suc, getD-take, getD-drop, take-append-le, drop-append-le, getD-append-add, take-at, drop-at, take-nil, take-take, drop-drop}
+use lib.ListN.{length, set, replicate, take, drop, length-take, length-drop, take-append-drop, List·getD-append}
+use lib.Seq.{getD-set-same, getD-set-other, take-suc, getD-take, getD-drop, take-append-le, drop-append-le, getD-append-add, take-at, drop-at, take-nil, take-take, take-add, drop-drop}
 use borrow.Author.Tests.{eqb-true, eqb-false, ltb-true, ltb-false, leb-true, leb-false, lt-ltb, le-ltb, ne-eqb}
 use Rattle.lists.specs.Lists.{indicator, countBy, count, _∈_, has, Once, at, part, Ascending}
 use Rattle.lists.specs.Tests.{split}
@@ -88,6 +88,16 @@ pub part-between : (f m r : List ℕ) {a e : ℕ} → a ≡ length f → e ≡ a
 part-between f m r {a} {e} p q =
     let z : e - a ≡ length m = omega arith in
     ap (take (e - a)) (drop-at f (m ++ r) a (sym p)) ∙ take-at m r (e - a) (sym z)
+
+-- what stands before a part, and the part
+pub take-part : (a e : ℕ) (l : List ℕ) → a ≤ e → take a l ++ part a e l ≡ take e l
+take-part a e l h = let q : a + (e - a) ≡ e = omega arith in sym (take-add a (e - a) l) ∙ ap (λ k. take k l) q
+
+-- a part, and what stands behind it
+pub part-drop : (a e : ℕ) (l : List ℕ) → a ≤ e → part a e l ++ drop e l ≡ drop a l
+part-drop a e l h =
+    let q : a + (e - a) ≡ e = omega arith in
+    ap (λ m. part a e l ++ m) (sym (drop-drop (e - a) a l ∙ ap (λ k. drop k l) q)) ∙ take-append-drop (e - a) (drop a l)
 
 -- ---- members
 

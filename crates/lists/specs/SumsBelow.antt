@@ -1,17 +1,17 @@
 -- Laws of sums, counts and the largest value over the numbers below a bound.
-use mathlib.Core.Bool.{Bool, true}
+use mathlib.Core.Bool.{Bool, true, _&&_}
 use mathlib.Core.List.{List, [], _∷_}
 use mathlib.Core.Logic.{⊎-elim}
 use mathlib.Core.Path.{_≡_, refl, sym, ap, ap₂, _∙_, fun-ext}
 use Prim.Native.Nat.{ℕ, zero, suc, _+_, _*_, _≤_, _<_, zero-le}
-use native.Mathlib.Nat.{not-suc-le-zero, le-refl, le-trans, le-of-suc-le-suc, eq-or-lt-of-le, add-zero, add-le-add, le-max-left, le-max-right, max-le}
+use native.Mathlib.Nat.{not-suc-le-zero, le-refl, le-trans, le-of-suc-le-suc, eq-or-lt-of-le, add-zero, mul-zero, add-le-add, le-max-left, le-max-right, max-le}
 use native.Mathlib.Omega.{arith}
 use lib.Dec.{eqb, ltb}
 use lib.ListN.{length}
 use borrow.Author.Tests.{eqb-true, eqb-false, ltb-true, ltb-false, lt-ltb, le-ltb}
 use Rattle.lists.specs.Lists.{indicator, sumBy, count, _∈_, has, Once}
 use Rattle.lists.specs.Below.{sumBelow, countBelow, largestBelow, joinBelow, mapBelow, range}
-use Rattle.lists.specs.Tests.{split}
+use Rattle.lists.specs.Tests.{split, passes}
 use Rattle.lists.specs.Sums.{indicator-le, sumBy-append, sumBy-add, sumBy-ones}
 use Rattle.lists.specs.Counts.{count-append, sumBy-cong-in, sumBy-single, sumBy-part}
 use Rattle.lists.specs.Loops.{last-or, sumBelow-next}
@@ -76,12 +76,36 @@ unfolding sumBelow
 sumBelow-const c zero = omega arith
 sumBelow-const c (suc n) = omega (arith, sumBelow-const c n)
 
+-- a double sum may be taken in either order
+pub sumBelow-swap : (f : ℕ → ℕ → ℕ) (n m : ℕ) → sumBelow n (λ i. sumBelow m (f i)) ≡ sumBelow m (λ j. sumBelow n (λ i. f i j))
+unfolding sumBelow
+sumBelow-swap f zero m = sym (sumBelow-const 0 m ∙ mul-zero m)
+sumBelow-swap f (suc n) m = ap (λ s. s + sumBelow m (f n)) (sumBelow-swap f n m) ∙ sym (sumBelow-add (λ j. sumBelow n (λ i. f i j)) (f n) m)
+
 -- the sum of what is 0 but at k
 pub sumBelow-single : (g : ℕ → ℕ) (k n : ℕ) → sumBelow n (λ i. g i * indicator (eqb k i)) ≡ g k * indicator (ltb k n)
 sumBelow-single g k n = sym (sumBy-range (λ i. g i * indicator (eqb k i)) n) ∙ sumBy-single g k (range n) ∙ ap (λ c. g k * c) (count-range k n)
 
 pub countBelow-le : (p : ℕ → Bool) (n : ℕ) → countBelow n p ≤ n
 countBelow-le p n = omega (arith, sumBelow-le (λ i. indicator (p i)) (λ i. 1) n (λ i _. indicator-le (p i)), sumBelow-const 1 n)
+
+-- those below a lower bound
+pub countBelow-cut : (p : ℕ → Bool) {k : ℕ} (n : ℕ) → k ≤ n → countBelow n (λ i. ltb i k && p i) ≡ countBelow k p
+unfolding sumBelow
+countBelow-cut p {k} zero l = let e : k ≡ 0 = omega arith in rw e
+countBelow-cut p {k} (suc n) l =
+    ⊎-elim
+    (λ e. sumBelow-same _ _ (suc n) (λ i h. ap (λ b. indicator (b && p i)) (lt-ltb i k (omega (arith, e)))) ∙ sym (ap (λ m. countBelow m p) e))
+    (λ h. omega (arith, countBelow-cut p n (le-of-suc-le-suc h), ap (λ b. indicator (b && p n)) (le-ltb n k (le-of-suc-le-suc h)))) (eq-or-lt-of-le l)
+
+-- where as many pass as there are, each does
+pub countBelow-all : (p : ℕ → Bool) (n : ℕ) {i : ℕ} → countBelow n p ≡ n → i < n → p i ≡ true
+unfolding sumBelow
+countBelow-all p zero e l = absurd (not-suc-le-zero l)
+countBelow-all p (suc n) e l =
+    ⊎-elim
+    (λ q. rw q (passes (p n) (λ f. omega (arith, e, countBelow-le p n, ap indicator f))))
+    (λ h. countBelow-all p n (omega (arith, e, countBelow-le p n, indicator-le (p n))) h) (last-or l)
 
 -- exactly one number below n is k
 pub countBelow-one : (k n : ℕ) → k < n → countBelow n (eqb k) ≡ 1

@@ -9,11 +9,12 @@ use lib.ListN.{length, set, take, drop, length-append, length-take, length-drop,
 use lib.Dec.{ltb}
 use lib.Seq.{drop-cons, append-snoc, set-at, take-at, drop-at, drop-append-add, drop-drop, length-take-le, take-set-le, drop-set-lt, take-all, ext-getD}
 use borrow.Author.Tests.{ltb-true, ltb-false}
-use Rattle.lists.specs.Lists.{at, part, Tabled, put}
-use Rattle.lists.specs.Below.{mapBelow}
+use Rattle.lists.specs.Lists.{at, part, Tabled, put, WrittenAt}
+use Rattle.lists.specs.Below.{joinBelow, mapBelow}
 use Rattle.lists.specs.Tests.{split}
 use Rattle.lists.specs.Places.{at-append, at-behind, at-drop, part-append, take-next}
-use Rattle.lists.specs.JoinBelow.{length-mapBelow, mapBelow-at}
+use Rattle.lists.specs.Loops.{by-end, joinBelow-next}
+use Rattle.lists.specs.JoinBelow.{length-mapBelow, length-joinBelow-le, mapBelow-at}
 
 -- what is written at the front, and behind it the rest as it was
 pub put-front : (t vs : List ℕ) → put t 0 vs ≡ vs ++ drop (length vs) t
@@ -111,6 +112,10 @@ put-tabled t n f {u} h e first rest =
     (λ a. let b = ltb-true x n a in first x b ∙ sym (at-front t vs x (omega arith) ∙ mapBelow-at f n b))
     (λ a. let b = ltb-false x n a in rest x b ∙ sym (behind-front t vs x (omega arith))))
 
+-- what was written at the front of t, up to place n, is the first n entries there
+pub written-front : (vs t : List ℕ) {n : ℕ} {u : List ℕ} → WrittenAt vs 0 t n u → take n u ≡ vs
+written-front vs t {n} w = ap (take n) (w .1 ∙ put-front t vs) ∙ take-at vs _ n (sym (w .0 ∙ zero-add (length vs)))
+
 -- a loop that stores: so far vs stands in u from place i on, and j is the next place
 module _ (t : List ℕ) (i : ℕ) (vs : List ℕ) {u : List ℕ} {j : ℕ} (w : u ≡ put t i vs) (e : j ≡ i + length vs) where
   pub stored-length : j ≤ length t → length u ≡ length t
@@ -121,6 +126,37 @@ module _ (t : List ℕ) (i : ℕ) (vs : List ℕ) {u : List ℕ} {j : ℕ} (w : 
 
   pub stored-list : (ws : List ℕ) → i ≤ length t → put u j ws ≡ put t i (vs ++ ws)
   stored-list ws h = ap₂ (λ l n. put l n ws) w e ∙ put-put t i vs ws h
+
+pub written-none : (t : List ℕ) (i : ℕ) → WrittenAt [] i t i t
+written-none t i = (sym (add-zero i), sym (put-none t i))
+
+-- what is written right behind what was written joins it
+pub written-append : (t : List ℕ) (i : ℕ) (vs ws : List ℕ) {u v : List ℕ} {j k : ℕ} → i ≤ length t → WrittenAt vs i t j u → WrittenAt ws j u k v → WrittenAt (vs ++ ws) i t k v
+written-append t i vs ws h a b = (omega (arith, a .0, b .0, length-append vs ws), b .1 ∙ stored-list t i vs (a .1) (a .0) ws h)
+
+-- a loop that writes the lists f 0, f 1, .. into t from place i on: so far k of them stand in u, and j is the place behind them
+module _ (f : ℕ → List ℕ) (t : List ℕ) (i : ℕ) where
+  pub written-start : WrittenAt (joinBelow 0 f) i t i t
+  unfolding joinBelow
+  written-start = written-none t i
+
+  module _ {k j : ℕ} {u : List ℕ} (w : WrittenAt (joinBelow k f) i t j u) where
+    -- code has the next list as x
+    pub written-next : {x v : List ℕ} {r : ℕ} → i ≤ length t → x ≡ f k → WrittenAt x j u r v → WrittenAt (joinBelow (k + 1) f) i t r v
+    written-next {x} h e s = rw (joinBelow-next k f, ← e) (written-append t i (joinBelow k f) x h w s)
+
+    pub written-done : (n : ℕ) → k ≤ n → n ≤ k → WrittenAt (joinBelow n f) i t j u
+    written-done n = by-end (λ m. WrittenAt (joinBelow m f) i t j u) w
+
+    -- there is space for n of them
+    module _ (n : ℕ) (h : i + length (joinBelow n f) ≤ length t) where
+      pub written-length : k ≤ n → length u ≡ length t
+      written-length b = stored-length t i (joinBelow k f) (w .1) (w .0) (omega (arith, w .0, length-joinBelow-le f n b))
+
+      pub written-fits : {x : List ℕ} → k < n → x ≡ f k → j + length x ≤ length u
+      written-fits b e =
+          let more = ap length (joinBelow-next k f) ∙ length-append (joinBelow k f) (f k) in
+          omega (arith, written-length (omega arith), w .0, ap length e, more, length-joinBelow-le f {i = k + 1} n (omega arith))
 
 -- a loop that copies l into t from place i on: so far k of its entries stand in u
 abbrev pub Copied : List ℕ → ℕ → List ℕ → List ℕ → ℕ → Type 0

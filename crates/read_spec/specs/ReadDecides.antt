@@ -1,20 +1,22 @@
 -- How the causes of Read decide: the sections, or else the records; and what an accepted file has passed.
-use mathlib.Core.Bool.{true, false}
+use mathlib.Core.Bool.{true, false, not}
 use mathlib.Core.List.{List}
-use mathlib.Core.Path.{_≡_, subst, sym}
-use Prim.Native.Nat.{ℕ}
-use borrow.Author.Tests.{not-false}
+use mathlib.Core.Path.{_≡_, subst, sym, ap}
+use Prim.Native.Nat.{ℕ, _≤_}
+use borrow.Author.Tests.{not-false, le-ltb}
 use lib.ListN.{length}
 use Rattle.lists.specs.Tests.{or-none}
 use Rattle.lists.specs.Writes.{put-front}
 use Rattle.refusals.specs.Outcomes.{Outcome, gives}
-use Rattle.refusals.specs.Causes.{NoneHolds, no-cause, none-gives, none-numbered, none-both}
+use Rattle.refusals.specs.Causes.{NoneHolds, no-cause, none-gives, none-numbered, none-both, none-append}
 use Rattle.refusals.specs.Due.{Due, stage-pass}
+use Rattle.table_spec.specs.Layout.{tableEntries}
 use Rattle.network.specs.declared.Counts.{Counts}
 use Rattle.file_spec.specs.FileBytes.{fileBusCount, needBytes, fileLineCount, records}
 use Rattle.file_spec.specs.Sections.{sectionCauses, counts, sectionsOutcome, soundEnds}
-use Rattle.file_spec.specs.SoundSections.{SoundSections, sections-passed, length-needBytes}
-use Rattle.file_spec.specs.Records.{degreeTooHigh}
+use Rattle.file_spec.specs.SoundSections.{SoundSections, sections-passed, sections-test, length-needBytes}
+use Rattle.file_spec.specs.RecordOrder.{outOfOrder}
+use Rattle.file_spec.specs.Records.{degreeTooHigh, pairCount}
 use Rattle.read_spec.specs.ReadStages.{RecordsDue}
 use Rattle.read_spec.specs.ReadOutcome.{recordCauses, readCauses, networkCounts, readOutcome, fileTable, storedTable, tableAfter}
 
@@ -39,8 +41,7 @@ module _ (f : List ℕ) {c : Counts} (e : sectionsOutcome f ≡ gives c) where
       stage-pass (sectionCauses f) (counts f) (sym e)
       (subst (λ s. Due (recordCauses n (fileLineCount f) (records f) (length t)) (networkCounts f) s t o t′) (put-front t (fileTable f)) d)
 
--- an accepted file has passed every test
-module _ (f t : List ℕ) {c : Counts} (e : readOutcome f (length t) ≡ gives c) where
+module _ (f t : List ℕ) where
   abbrev n : ℕ
   n = fileBusCount f
 
@@ -50,20 +51,32 @@ module _ (f t : List ℕ) {c : Counts} (e : readOutcome f (length t) ≡ gives c
   abbrev r : List ℕ
   r = records f
 
-  none : NoneHolds (readCauses f (length t))
-  none = no-cause (readCauses f (length t)) (networkCounts f) e .0
+  -- an accepted file has passed every test
+  module _ {c : Counts} (e : readOutcome f (length t) ≡ gives c) where
+    none : NoneHolds (readCauses f (length t))
+    none = no-cause (readCauses f (length t)) (networkCounts f) e .0
 
-  pub whole : SoundSections f
-  whole = sections-passed f (none-both (sectionCauses f) (recordCauses n m r (length t)) none .0)
+    pub whole : SoundSections f
+    whole = sections-passed f (none-both (sectionCauses f) (recordCauses n m r (length t)) none .0)
 
-  pub sound-ends : soundEnds n m r ≡ true
-  sound-ends = not-false _ (or-none _ _ (none-numbered 6 (readCauses f (length t)) none) .0)
+    pub sound-ends : soundEnds n m r ≡ true
+    sound-ends = not-false _ (or-none _ _ (none-numbered 6 (readCauses f (length t)) none) .0)
 
-  pub none-too-high : degreeTooHigh n m r ≡ false
-  none-too-high = or-none _ _ (none-numbered 7 (readCauses f (length t)) none) .0
+    pub none-too-high : degreeTooHigh n m r ≡ false
+    none-too-high = or-none _ _ (none-numbered 7 (readCauses f (length t)) none) .0
 
-  pub counts-given : c ≡ networkCounts f
-  counts-given = no-cause (readCauses f (length t)) (networkCounts f) e .1
+    pub in-order : outOfOrder m r ≡ false
+    in-order = or-none _ _ (none-numbered 15 (readCauses f (length t)) none) .0
 
-  pub table-stored : tableAfter f t ≡ storedTable f t
-  table-stored = rw (none-gives (readCauses f (length t)) (storedTable f t) none)
+    pub counts-given : c ≡ networkCounts f
+    counts-given = no-cause (readCauses f (length t)) (networkCounts f) e .1
+
+    pub table-stored : tableAfter f t ≡ storedTable f t
+    table-stored = rw (none-gives (readCauses f (length t)) (storedTable f t) none)
+
+  -- and one that passes every test is accepted, where there is room for its table
+  pub read-accepts : SoundSections f → soundEnds n m r ≡ true → outOfOrder m r ≡ false → degreeTooHigh n m r ≡ false → tableEntries n (pairCount m r) ≤ length t
+      → readOutcome f (length t) ≡ gives (networkCounts f)
+  read-accepts s ends order degrees room =
+      let passed : NoneHolds (recordCauses n m r (length t)) = (ap not ends, (order, (degrees, (le-ltb (length t) (tableEntries n (pairCount m r)) room, tt)))) in
+      none-gives (readCauses f (length t)) (networkCounts f) (none-append (sectionCauses f) (recordCauses n m r (length t)) (sections-test s) passed)

@@ -19,9 +19,9 @@ use Rattle.game.specs.Game.{Game, own, neighbour, GameOn, numerator as formula}
 use Rattle.table_spec.specs.Limits.{maxBuses}
 use Rattle.table_spec.specs.Layout.{busCount, row}
 use Rattle.table_spec.specs.Holds.{Scorable}
-use Rattle.table_spec.specs.Rows.{valid-below}
+use Rattle.table_spec.specs.Rows.{valid-below, row-valid}
 use Rattle.share_spec.specs.TableNetwork.{gameOf, maxDenominator, Over}
-use Rattle.share_spec.specs.TableGame.{row-valid, game-on}
+use Rattle.share_spec.specs.TableGame.{game-on}
 use Rattle.share_terms.specs.Added.{Added}
 use Rattle.share_terms.specs.Adding.{added-entry, added-both, cleared-long, cleared-zero, added-zeros}
 use Rattle.scorer.specs.ScorerWork.{termTo, Room}

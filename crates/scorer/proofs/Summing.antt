@@ -14,11 +14,11 @@ use Rattle.game.specs.Game.{own, neighbour}
 use Rattle.table_spec.specs.Limits.{maxDegree}
 use Rattle.table_spec.specs.Layout.{busCount, row, need, degree}
 use Rattle.table_spec.specs.Holds.{Scorable}
-use Rattle.table_spec.specs.Rows.{valid-below}
+use Rattle.table_spec.specs.Rows.{valid-below, row-valid, degree-le}
 use Rattle.share_spec.specs.TableNetwork.{gameOf, maxDenominator, Over}
 use Rattle.share_spec.specs.Formula.{numeratorOver}
 use Rattle.share_spec.specs.TermBounds.{term-le, own-rest}
-use Rattle.share_spec.specs.TableGame.{row-valid, degree-le, term-whole}
+use Rattle.share_spec.specs.TableGame.{term-whole}
 use Rattle.two_way.specs.TwoWay.{networkOf}
 
 -- the own term, and the terms of the first k neighbours

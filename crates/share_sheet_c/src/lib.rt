@@ -1,4 +1,4 @@
-// The library for C, and for languages that call C: each call of the scope, the whole sheet and the sizes that are enough, on numbers, slices and lent places.
+// The library for C, and for languages that call C: each call of the scope, the file writer, the whole sheet and the sizes that are enough, on numbers, slices and lent places.
 // A call gives a 32-bit status: 0, or the scope's number where it is refused. Values are handed back through lent places, which a refused call leaves as they were.
 ghost use mathlib.Core.Path.{_≡_};
 ghost use lib.ListN.{length};
@@ -6,6 +6,7 @@ ghost use Rattle.refusals.specs.Numbers.{numberOf};
 ghost use Rattle.table_spec.specs.Limits.{maxBuses, maxEntries, maxBytes};
 ghost use Rattle.table_spec.specs.TableOutcomes.{degreeOutcome, rowPlaceOutcome, RowStands};
 ghost use Rattle.read_spec.specs.ReadOutcome.{readOutcome, tableAfter, Recorded};
+ghost use Rattle.write_spec.specs.WriteOutcome.{writeOutcome, bytesAfter};
 ghost use Rattle.two_way.specs.TwoWay.{networkOf};
 ghost use Rattle.share_spec.specs.ShareOutcomes.{sharesOutcome, numeratorsAfter, AllFair, shareOutcome, OneFair};
 ghost use Rattle.fraction.specs.Cancel.{cancelOutcome, CancelRule};
@@ -48,6 +49,21 @@ pub extern "C" fn share_sheet_read(
         Reading::Accepted(counts) => {
             *buses = counts.buses;
             *lines = counts.lines;
+            0
+        }
+    }
+}
+
+// Writes the file of a table's network at the front of lent bytes, and gives its byte count.
+#[no_mangle]
+pub extern "C" fn share_sheet_write(table: &[u16], file: &mut [u8], bytes: &mut usize) -> u32
+    ensures answer { λ r. ⌜ ByStatus (writeOutcome (now (table .entry)) (length (now (file .entry)))) (now (bytes .entry)) r (now (bytes .exit)) ⌝ }
+    ensures written { λ _. ⌜ now (file .exit) ≡ bytesAfter (now (table .entry)) (now (file .entry)) ⌝ }
+{
+    match writer::write(table, file) {
+        Written::Refused(cause) => status(cause),
+        Written::Bytes(count) => {
+            *bytes = count;
             0
         }
     }
@@ -201,6 +217,14 @@ pub extern "C" fn share_sheet_max_entries() -> usize
 // The most bytes of a file.
 #[no_mangle]
 pub extern "C" fn share_sheet_max_bytes() -> usize
+    ensures { λ r. ⌜ r ≡ maxBytes ⌝ }
+{
+    Network::BYTES
+}
+
+// The most bytes of a file that is written: as many are enough for each network.
+#[no_mangle]
+pub extern "C" fn share_sheet_max_file() -> usize
     ensures { λ r. ⌜ r ≡ maxBytes ⌝ }
 {
     Network::BYTES

@@ -14,32 +14,24 @@ use Rattle.game.specs.Game.{GameOn, Whole, Common}
 use Rattle.game.specs.Terms.{whole-degree}
 use Rattle.table_spec.specs.Limits.{maxDegree}
 use Rattle.table_spec.specs.Layout.{busCount, row, degree, need}
-use Rattle.table_spec.specs.Holds.{Scorable, ValidRow}
-use Rattle.table_spec.specs.Rows.{row-le, valid-once, valid-below, valid-others}
+use Rattle.table_spec.specs.Holds.{Scorable}
+use Rattle.table_spec.specs.Rows.{valid-once, valid-below, valid-others, row-valid, degree-le}
 use Rattle.share_spec.specs.TableNetwork.{gameOf, largestDegree, divisorsOf, Over}
 use Rattle.share_spec.specs.Denominator.{up-to, of-up-to, multiple-pos, multiple-le}
 
 module _ {t : List ℕ} (w : Scorable t) where
-  pub row-valid : (u : ℕ) → u < busCount t → ValidRow (busCount t) u (row t u)
-  unfolding row
-  row-valid u b = w .rows .valid u b
-
   pub game-on : GameOn (range (busCount t)) (gameOf t)
   game-on = record {
     once = range-once (busCount t);
     needs = λ u i. w .needed u (of-range u (busCount t) i);
-    watchers-once = λ u i. valid-once (row-valid u (of-range u (busCount t) i));
-    watchers-inside = λ u i v m. in-range v (busCount t) (valid-below (row-valid u (of-range u (busCount t) i)) v m);
-    watchers-other = λ u i. has-none u (row t u) (fails _ (λ e. valid-others (row-valid u (of-range u (busCount t) i)) (has-in u (row t u) e)));
+    watchers-once = λ u i. valid-once (row-valid w u (of-range u (busCount t) i));
+    watchers-inside = λ u i v m. in-range v (busCount t) (valid-below (row-valid w u (of-range u (busCount t) i)) v m);
+    watchers-other = λ u i. has-none u (row t u) (fails _ (λ e. valid-others (row-valid w u (of-range u (busCount t) i)) (has-in u (row t u) e)));
   }
-
-  pub degree-le : (u : ℕ) → u < busCount t → degree t u ≤ maxDegree
-  unfolding row
-  degree-le u b = row-le _ _ _ (w .rows .spans) u b
 
   pub largest-le : largestDegree t ≤ maxDegree
   unfolding largestDegree
-  largest-le = largestBelow-le (degree t) maxDegree _ (λ u b. degree-le u (omega (arith, w .complete .least)))
+  largest-le = largestBelow-le (degree t) maxDegree _ (λ u b. degree-le w u (omega (arith, w .complete .least)))
 
   bounded : (k : ℕ) → k ∈ divisorsOf t → (1 ≤ k) × (k ≤ 1 + maxDegree)
   unfolding divisorsOf

@@ -10,8 +10,8 @@ use Rattle.game.specs.Game.{neighbourTerm, neighbour}
 use Rattle.table_spec.specs.Limits.{maxDegree}
 use Rattle.table_spec.specs.Layout.{busCount, degree, need}
 use Rattle.table_spec.specs.Holds.{Scorable}
+use Rattle.table_spec.specs.Rows.{degree-le}
 use Rattle.share_spec.specs.TableNetwork.{gameOf, maxDenominator, Over}
-use Rattle.share_spec.specs.TableGame.{degree-le}
 use Rattle.share_terms.specs.Unit.{unit}
 
 -- a bus that needs more neighbours than it has gives nothing

@@ -1,12 +1,10 @@
 -- How a text and Sheet line come out.
 use mathlib.Core.List.{List, _++_}
-use mathlib.Core.Path.{_≡_, refl, sym, ap, _∙_}
+use mathlib.Core.Path.{_≡_, refl, ap, _∙_}
 use Prim.Native.Nat.{ℕ, _≤_, _<_}
-use native.Mathlib.Nat.{le-refl, zero-add}
+use native.Mathlib.Nat.{le-refl}
 use lib.ListN.{length, take, drop}
-use lib.Seq.{take-at, take-all}
-use Rattle.lists.specs.Lists.{WrittenAt}
-use Rattle.lists.specs.Writes.{put-front}
+use lib.Seq.{take-all}
 use Rattle.refusals.specs.Outcomes.{Outcome, gives, refuses}
 use Rattle.refusals.specs.Due.{Due, both, accept, below, not-below}
 use Rattle.share_spec.specs.Network.{Network}
@@ -24,10 +22,6 @@ module _ (text x : List ℕ) where
 
   pub in-front : {r : ℕ} {y : List ℕ} → length text ≤ length x → r ≡ length text → y ≡ take (length text) text ++ drop (length text) x → TextDue text x (gives r) y
   in-front g a w = not-below refl refl g (accept a (w ∙ ap (λ l. l ++ drop (length text) x) (take-all (length text) text (le-refl _))))
-
--- a text that was written at the front of x, and is n bytes long, is the first n bytes there
-pub written-front : (text x : List ℕ) {n : ℕ} {y : List ℕ} → WrittenAt text 0 x n y → take n y ≡ text
-written-front text x {n} w = ap (take n) (w .1 ∙ put-front x text) ∙ take-at text _ n (sym (w .0 ∙ zero-add (length text)))
 
 -- what was answered and written for a text is due for any that is the same
 pub due-text : {other : List ℕ} (text x : List ℕ) {o : Outcome ℕ} {y : List ℕ} → other ≡ text → (o ≡ textOutcome other (length x)) × (y ≡ textAfter other x) → TextDue text x o y

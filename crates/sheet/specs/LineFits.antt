@@ -13,12 +13,13 @@ use Rattle.text.specs.Decimal.{decimal-le}
 use Rattle.table_spec.specs.Limits.{maxBuses}
 use Rattle.table_spec.specs.Holds.{Holds}
 use Rattle.table_spec.specs.LineCount.{lines-le}
+use Rattle.table_spec.specs.Rows.{degree-le}
 use Rattle.fraction.specs.Divisors.{gcdOf}
 use Rattle.share_spec.specs.Network.{Network, denominator}
 use Rattle.share_spec.specs.Formula.{numerator}
 use Rattle.share_spec.specs.TableNetwork.{maxDenominator}
 use Rattle.share_spec.specs.FairFormula.{whole}
-use Rattle.share_spec.specs.TableGame.{degree-le, own-over}
+use Rattle.share_spec.specs.TableGame.{own-over}
 use Rattle.two_way.specs.TwoWay.{networkOf}
 use Rattle.two_way.specs.TwoWaySound.{total-weight, sound}
 use Rattle.sheet.specs.Sheet.{headingForm, busForm, sheetLine}

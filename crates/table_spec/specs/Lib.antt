@@ -11,3 +11,4 @@ pub mod RowPlaces
 pub mod LineCount
 pub mod BeyondTable
 pub mod Laid
+pub mod LaidAgain

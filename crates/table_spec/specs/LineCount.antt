@@ -6,10 +6,11 @@ use native.Mathlib.Numerals.{add-one}
 use native.Mathlib.Omega.{arith}
 use lib.ListN.{length}
 use Rattle.lists.specs.Lists.{indicator, has, at}
-use Rattle.lists.specs.Below.{sumBelow, countBelow}
+use Rattle.lists.specs.Below.{sumBelow, countBelow, joinBelow}
 use Rattle.lists.specs.Tests.{fails}
 use Rattle.lists.specs.Counts.{has-in}
 use Rattle.lists.specs.SumsBelow.{sumBelow-same, sumBelow-mirror, length-members}
+use Rattle.lists.specs.JoinBelow.{length-joinBelow}
 use Rattle.table_spec.specs.Limits.{maxDegree, maxLines, maxEntries}
 use Rattle.table_spec.specs.Layout.{rowAt, busCount, last, entries, neighbourNumbers, startsAt, row, lines, tableEntries}
 use Rattle.table_spec.specs.Holds.{SoundRows, Mirrored, Holds}
@@ -17,7 +18,7 @@ use Rattle.table_spec.specs.Rows.{row-length, valid-once, valid-below, v
 
 module _ (n : ℕ) (s l : List ℕ) (w : SoundRows n s l) where
   -- a row starts where the rows before it end
-  start-sum : (i : ℕ) → i ≤ n → at s i ≡ sumBelow i (λ a. length (rowAt s l a))
+  pub start-sum : (i : ℕ) → i ≤ n → at s i ≡ sumBelow i (λ a. length (rowAt s l a))
   unfolding sumBelow
   start-sum zero b = w .first
   start-sum (suc i) b =
@@ -44,6 +45,11 @@ module _ (t : List ℕ) (w : Holds t) where
 
   pub half : length (neighbourNumbers (startsAt t) t) / 2 ≡ lines t
   half = omega (arith, length-numbers (startsAt t) t (w .shape .complete), two-for-each)
+
+  pub length-rows : length (joinBelow (busCount t) (row t)) ≡ 2 * lines t
+  unfolding row
+  length-rows =
+      length-joinBelow (busCount t) (row t) ∙ sym (start-sum _ _ _ (w .shape .rows) (busCount t) (omega arith)) ∙ last-start (startsAt t) t (w .shape .complete) ∙ two-for-each
 
   last-le : last (startsAt t) t ≤ busCount t * maxDegree
   last-le = omega (arith, last-start (startsAt t) t (w .shape .complete), start-le _ _ _ (w .shape .rows) (busCount t) (omega arith))

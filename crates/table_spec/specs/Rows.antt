@@ -96,6 +96,17 @@ module _ (from : ℕ) (t : List ℕ) (w : Complete from t) where
   pub room : (busCount t < length (starts from t)) × (at (starts from t) (busCount t) ≤ length (neighbourNumbers from t))
   room = (omega (arith, length-starts), omega (arith, last-start, length-numbers))
 
+-- ---- the rows of a table that can be scored: they are valid, and short
+
+module _ {t : List ℕ} (w : Scorable t) where
+  pub row-valid : (i : ℕ) → i < busCount t → ValidRow (busCount t) i (row t i)
+  unfolding row
+  row-valid i b = w .rows .valid i b
+
+  pub degree-le : (i : ℕ) → i < busCount t → degree t i ≤ maxDegree
+  unfolding row
+  degree-le i b = row-le _ _ _ (w .rows .spans) i b
+
 -- ---- and where rows stand
 
 module _ (t : List ℕ) (w : Scorable t) (i : ℕ) (b : i < busCount t) where

@@ -9,9 +9,9 @@ use Rattle.lists.specs.SumsBelow.{sumBelow-const}
 use Rattle.table_spec.specs.Layout.{busCount, row, starts, neighbourNumbers, startsAt}
 use Rattle.table_spec.specs.Holds.{holds, Scorable, Mirrored}
 use Rattle.table_spec.specs.Facts.{holds-facts}
-use Rattle.table_spec.specs.Rows.{valid-once, valid-below}
+use Rattle.table_spec.specs.Rows.{valid-once, valid-below, row-valid}
 use Rattle.share_spec.specs.Network.{totalWeight, Watching, Sound}
-use Rattle.share_spec.specs.TableGame.{row-valid, game-on, own-pos, own-over, over-whole}
+use Rattle.share_spec.specs.TableGame.{game-on, own-pos, own-over, over-whole}
 use Rattle.two_way.specs.TwoWay.{networkOf}
 
 -- each bus has weight 1

@@ -7,8 +7,8 @@ use lib.ListN.{length, getD, length-set}
 use Rattle.lists.specs.Lists.{at}
 use Rattle.game.specs.Game.{neighbour}
 use Rattle.table_spec.specs.Layout.{degree}
+use Rattle.table_spec.specs.Rows.{degree-le}
 use Rattle.share_spec.specs.TableNetwork.{gameOf}
-use Rattle.share_spec.specs.TableGame.{degree-le}
 use Rattle.share_terms.specs.Unit.{unit}
 use Rattle.share_terms.specs.TermUnits.{term-asks, term-read}
 use Rattle.scorer.specs.ScorerWork.{degrees}

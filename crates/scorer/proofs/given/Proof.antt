@@ -4,7 +4,7 @@ use native.Mathlib.Omega.{arith}
 use mathlib.Core.Path.{_≡_, ap}
 use lib.ListN.{length}
 use Rattle.table_spec.specs.Layout.{degree}
-use Rattle.share_spec.specs.TableGame.{degree-le}
+use Rattle.table_spec.specs.Rows.{degree-le}
 use Rattle.share_terms.specs.TermUnits.{term-asks, term-read}
 use Rattle.scorer.proofs.given.Statement.{statement}
 use Rattle.scorer.proofs.given.Tie as tie

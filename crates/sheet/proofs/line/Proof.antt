@@ -6,6 +6,7 @@ use mathlib.Core.Path.{_≡_, refl, ap}
 use Prim.Native.Nat.{ℕ}
 use lib.ListN.{length, take, replicate, length-replicate}
 use Rattle.lists.specs.Tests.{passed, failed}
+use Rattle.lists.specs.Writes.{written-front}
 use Rattle.refusals.specs.Due.{below, not-below}
 use Rattle.table_spec.specs.Holds.{holds}
 use Rattle.table_spec.specs.Facts.{holds-facts}
@@ -13,7 +14,7 @@ use Rattle.table_spec.specs.TableCauses.{no-network, on-held}
 use Rattle.two_way.specs.TwoWay.{networkOf}
 use Rattle.sheet.specs.Sheet.{sheetLine}
 use Rattle.sheet.specs.LineRoom.{longestLine}
-use Rattle.sheet.specs.LineDue.{written-front, due-text, line-due}
+use Rattle.sheet.specs.LineDue.{due-text, line-due}
 use Rattle.sheet.proofs.line.Statement.{statement}
 use Rattle.sheet.proofs.line.Tie as tie
 

@@ -6,11 +6,12 @@ use mathlib.Core.Path.{_≡_, ap}
 use Prim.Native.Nat.{ℕ}
 use lib.ListN.{length, take, replicate, length-replicate}
 use Rattle.lists.specs.Tests.{passed, failed}
+use Rattle.lists.specs.Writes.{written-front}
 use Rattle.table_spec.specs.Holds.{holds}
 use Rattle.table_spec.specs.Facts.{holds-facts}
 use Rattle.table_spec.specs.TableCauses.{on-held}
 use Rattle.two_way.specs.TwoWay.{networkOf}
-use Rattle.sheet.specs.LineDue.{written-front, due-text}
+use Rattle.sheet.specs.LineDue.{due-text}
 use Rattle.whole_sheet.specs.WholeSheet.{wholeSheet}
 use Rattle.whole_sheet.specs.SheetRoom.{longestSheet}
 use Rattle.whole_sheet.specs.SheetDue.{sheet-due, none-held}

@@ -1,0 +1,10 @@
+-- What the file writer answers and writes: definitions, computed examples, then laws and claims.
+pub mod FileOf
+pub mod WriteOutcome
+pub mod RoundTrip
+pub mod WriteExamples
+pub mod WrittenBytes
+pub mod PairLaws
+pub mod WriteDue
+pub mod ReadBack
+pub mod GivenBack

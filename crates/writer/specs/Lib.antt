@@ -1,0 +1,2 @@
+-- Records row by row, as the writer writes them.
+pub mod RowRecords
