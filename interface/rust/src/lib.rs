@@ -3,8 +3,8 @@
 //!
 //! The calls are those of the proved library share_sheet_c, made safe. A network is lent as a
 //! *line table*: a slice of `u16` that [`read`] fills from a network file, or that the caller
-//! builds; [`write`] makes a network file from either. `docs/FORMAT.md` of the repository explains
-//! file, table, shares and sheet.
+//! builds; [`write`](fn@write) makes a network file from either. `docs/FORMAT.md` of the
+//! repository explains file, table, shares and sheet.
 //!
 //! Nothing is allocated here, and nothing is kept between calls: callers lend the slices, and
 //! [`limits`] gives lengths that are always enough. A refused call gives a [`Refusal`] and
@@ -91,8 +91,8 @@ pub struct Limits {
     pub buses: usize,
     /// The entries of the largest line table: enough for [`read`].
     pub entries: usize,
-    /// The bytes of the largest network file: enough for [`write`]. One byte more shows that a file
-    /// is too long for [`read`].
+    /// The bytes of the largest network file: enough for [`write`](fn@write). One byte more shows
+    /// that a file is too long.
     pub file_bytes: usize,
     /// Bytes that are enough for [`whole_sheet`], and so for [`sheet_line`].
     pub text_bytes: usize,
