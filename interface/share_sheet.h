@@ -2,8 +2,9 @@
 
    A network is lent as a line table: 16-bit numbers that give the bus count, the needs, where
    each bus's row starts, and the neighbours of each bus in ascending order. share_sheet_read
-   makes one from the bytes of a network file; a caller may also build one in memory. Entries
-   behind the table never matter. docs/FORMAT.md explains file, table, shares and sheet.
+   makes one from the bytes of a network file; a caller may also build one in memory.
+   share_sheet_write makes a network file from either. Entries behind the table never matter.
+   docs/FORMAT.md explains file, table, shares and sheet.
 
    Rules for all pointers, which no function tests: a pointer is not NULL, not even where its
    length is 0; it is aligned for its type and valid for all entries of its length; and what is
@@ -29,6 +30,7 @@
     13  the network does not have the bus, or the sheet does not have the line
     14  too few bytes are lent for the text
     15  the first bus of a record is above its second, or a record is below the one before it
+    16  too few bytes are lent for the file
 
    No call allocates memory or keeps anything for the next one. share_sheet_whole takes some 30 KB
    of stack, each other call less than 8. Calls may run at the same time, as long as none writes
@@ -53,6 +55,15 @@ extern "C" {
    15, then all for 7. */
 uint32_t share_sheet_read(const uint8_t *file, size_t file_len, uint16_t *table, size_t table_len,
                           size_t *buses, size_t *lines);
+
+/* Writes the network file of a table at the front of `file`, and gives its bytes: the bus count,
+   the needs, the line count m, and a record for each pair of neighbours, the lower bus first,
+   ascending by first bus, then by second. The file takes 4 + n + 4m bytes; later ones are left as
+   they were. Refused with 11, then with 16 if `file` is shorter than that. Reading the file gives
+   the same table. A file that was read and has no parallel circuits is given back byte by byte;
+   of equal records one is left. */
+uint32_t share_sheet_write(const uint16_t *table, size_t table_len, uint8_t *file, size_t file_len,
+                           size_t *bytes);
 
 /* Gives the number of neighbours of a bus. Refused with 11, then with 13 if `bus` is n or above. */
 uint32_t share_sheet_degree(const uint16_t *table, size_t table_len, size_t bus, size_t *degree);
@@ -101,6 +112,10 @@ size_t share_sheet_max_entries(void);
 
 /* The bytes of the largest network file: one more than this shows that a file is too long. */
 size_t share_sheet_max_bytes(void);
+
+/* Bytes that are enough for every network file that is written: the same number as
+   share_sheet_max_bytes, since none is longer than the largest that is read. */
+size_t share_sheet_max_file(void);
 
 /* Bytes of text that are enough for every sheet, and so for each of its lines. */
 size_t share_sheet_max_text(void);

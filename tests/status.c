@@ -1,6 +1,7 @@
 /* The status of each call, accepted and refused, as its four bytes read. Exit status 0: all are
    right. */
 #include <stdio.h>
+#include <string.h>
 
 #include "share_sheet.h"
 
@@ -46,6 +47,14 @@ int main(void)
     EXPECT(share_sheet_line(table, 12, 1, text, 1, &a), 14);
     EXPECT(share_sheet_whole(table, 12, text, 64, &a), 0);
     EXPECT(share_sheet_whole(table, 12, text, 58, &a), 14);
+    EXPECT(share_sheet_write(table, 12, text, 64, &a), 0);
+    EXPECT((uint32_t)a, 15);
+    EXPECT((uint32_t)memcmp(text, file, 15), 0);
+    EXPECT(share_sheet_write(table, 12, text, 15, &a), 0);
+    EXPECT(share_sheet_write(table, 12, text, 14, &a), 16);
+    EXPECT(share_sheet_write(none, 12, text, 64, &a), 11);
+    EXPECT(share_sheet_write(none, 12, text, 0, &a), 11);
+    EXPECT((uint32_t)share_sheet_max_file(), (uint32_t)share_sheet_max_bytes());
     EXPECT(share_sheet_read(turned, 15, table, 12, &a, &b), 15);
     EXPECT(share_sheet_read(parallel, 15, table, 9, &a, &b), 10);
     EXPECT(share_sheet_read(parallel, 15, table, 10, &a, &b), 0);

@@ -3,7 +3,8 @@
 //!
 //! The calls are those of the proved library share_sheet_c, made safe. A network is lent as a
 //! *line table*: a slice of `u16` that [`read`] fills from a network file, or that the caller
-//! builds. `docs/FORMAT.md` of the repository explains file, table, shares and sheet.
+//! builds; [`write`](fn@write) makes a network file from either. `docs/FORMAT.md` of the
+//! repository explains file, table, shares and sheet.
 //!
 //! Nothing is allocated here, and nothing is kept between calls: callers lend the slices, and
 //! [`limits`] gives lengths that are always enough. A refused call gives a [`Refusal`] and
@@ -90,7 +91,8 @@ pub struct Limits {
     pub buses: usize,
     /// The entries of the largest line table: enough for [`read`].
     pub entries: usize,
-    /// The bytes of the largest network file. One byte more shows that a file is too long.
+    /// The bytes of the largest network file: enough for [`write`](fn@write). One byte more shows
+    /// that a file is too long.
     pub file_bytes: usize,
     /// Bytes that are enough for [`whole_sheet`], and so for [`sheet_line`].
     pub text_bytes: usize,
@@ -174,6 +176,53 @@ pub fn read(file: &[u8], table: &mut [u16]) -> Result<Counts, Refusal> {
     };
     refusal::accepted(number)?;
     Ok(counts)
+}
+
+/// Writes the network file of a line table at the front of `file`, and gives its bytes.
+///
+/// The file has the bus count, the needs, the line count, and a record for each pair of neighbours:
+/// the lower bus first, ascending by first bus, then by second. A network of n buses and m lines
+/// takes 4 + n + 4m bytes; later ones are left as they were. Refused with
+/// [`NoNetwork`](Refusal::NoNetwork), then with [`BytesTooShort`](Refusal::BytesTooShort).
+///
+/// [`read`] makes the same table from the file. A file that was read and has no parallel circuits
+/// is given back byte by byte; of equal records one is left.
+///
+/// ```
+/// use share_sheet::{limits, read, write, Refusal};
+///
+/// let path = [3, 0, 1, 1, 1, 2, 0, 0, 0, 1, 0, 1, 0, 2, 0];
+/// let mut table = vec![0; limits().entries];
+/// read(&path, &mut table)?;
+/// let mut file = vec![0; limits().file_bytes];
+/// let bytes = write(&table, &mut file)?;
+/// assert_eq!(file[..bytes], path);
+///
+/// // built in memory: n, the needs, the row starts, and the rows of buses 0 to 3
+/// let built = [4, 1, 2, 1, 24, 0, 1, 3, 4, 6, 3, 2, 3, 1, 0, 1];
+/// let mut file = [0; 20];
+/// assert_eq!(write(&built, &mut file), Ok(20));
+/// // the records, from byte 8 on, join 0 and 3, 1 and 2, 1 and 3
+/// assert_eq!(file, [4, 0, 1, 2, 1, 24, 3, 0, 0, 0, 3, 0, 1, 0, 2, 0, 1, 0, 3, 0]);
+///
+/// assert_eq!(write(&built, &mut file[..19]), Err(Refusal::BytesTooShort));
+/// assert_eq!(write(&built[..15], &mut []), Err(Refusal::NoNetwork));
+/// # Ok::<(), Refusal>(())
+/// ```
+pub fn write(table: &[u16], file: &mut [u8]) -> Result<usize, Refusal> {
+    let mut bytes = 0;
+    // SAFETY: as in `read`.
+    let number = unsafe {
+        raw::share_sheet_write(
+            table.as_ptr(),
+            table.len(),
+            file.as_mut_ptr(),
+            file.len(),
+            &mut bytes,
+        )
+    };
+    refusal::accepted(number)?;
+    Ok(bytes)
 }
 
 /// Gives the number of neighbours of a bus.

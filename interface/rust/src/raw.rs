@@ -11,6 +11,14 @@ extern "C" {
         lines: *mut usize,
     ) -> u32;
 
+    pub fn share_sheet_write(
+        table: *const u16,
+        table_len: usize,
+        file: *mut u8,
+        file_len: usize,
+        bytes: *mut usize,
+    ) -> u32;
+
     pub fn share_sheet_degree(
         table: *const u16,
         table_len: usize,
@@ -69,6 +77,9 @@ extern "C" {
     pub fn share_sheet_max_buses() -> usize;
     pub fn share_sheet_max_entries() -> usize;
     pub fn share_sheet_max_bytes() -> usize;
+    // the same number, as a test shows
+    #[cfg(test)]
+    pub fn share_sheet_max_file() -> usize;
     pub fn share_sheet_max_text() -> usize;
 }
 
@@ -128,6 +139,40 @@ mod tests {
         assert_eq!(table, TABLE);
         assert_eq!(read(&repeat, &mut table), (0, 3, 1));
         assert_eq!(table, [3, 1, 1, 1, 0, 1, 2, 2, 1, 0, 2, 1]);
+    }
+
+    #[test]
+    fn bytes_of_a_file() {
+        let write = |table: &[u16], file: &mut [u8]| {
+            let mut bytes = A;
+            // SAFETY: as in `read`.
+            let number = unsafe {
+                share_sheet_write(
+                    table.as_ptr(),
+                    table.len(),
+                    file.as_mut_ptr(),
+                    file.len(),
+                    &mut bytes,
+                )
+            };
+            (number, bytes)
+        };
+        let mut file = [7; 17];
+        assert_eq!(write(&TABLE, &mut file[..14]), (16, A));
+        assert_eq!(write(&TABLE, &mut []), (16, A));
+        assert_eq!(write(&NONE, &mut file), (11, A));
+        assert_eq!(write(&NONE, &mut []), (11, A));
+        assert_eq!(file, [7; 17]);
+        assert_eq!(write(&TABLE, &mut file), (0, 15));
+        assert_eq!(file[..15], PATH);
+        assert_eq!(file[15..], [7, 7]);
+    }
+
+    #[test]
+    fn bytes_of_every_file() {
+        // SAFETY: these functions take nothing and look at nothing.
+        let (written, read) = unsafe { (share_sheet_max_file(), share_sheet_max_bytes()) };
+        assert_eq!((written, read), (24_068, 24_068));
     }
 
     #[test]

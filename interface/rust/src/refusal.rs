@@ -47,6 +47,8 @@ pub enum Refusal {
     TextTooShort,
     /// The first bus of a record is above its second, or a record is below the one before it.
     OutOfOrder,
+    /// Too few bytes are lent for the file.
+    BytesTooShort,
 }
 
 impl Refusal {
@@ -85,6 +87,7 @@ impl Refusal {
                 "the first bus of a record is above its second, or a record is below the one \
                  before it"
             }
+            Refusal::BytesTooShort => "too few bytes are lent for the file",
         }
     }
 }
@@ -115,6 +118,7 @@ pub(crate) fn accepted(status: u32) -> Result<(), Refusal> {
         13 => Refusal::NoSuchBus,
         14 => Refusal::TextTooShort,
         15 => Refusal::OutOfOrder,
+        16 => Refusal::BytesTooShort,
         _ => panic!("share_sheet_c returned {status}, which stands for no refusal"),
     })
 }
@@ -128,7 +132,7 @@ mod tests {
     fn every_number_has_a_refusal_and_words_of_its_own() {
         assert_eq!(accepted(0), Ok(()));
         let mut words = HashSet::new();
-        for number in (1..=15).filter(|&number| number != 8) {
+        for number in (1..=16).filter(|&number| number != 8) {
             let refused = accepted(number).unwrap_err();
             assert_eq!(u32::from(refused.number()), number);
             assert!(words.insert(refused.words()), "{refused}");
@@ -137,9 +141,9 @@ mod tests {
     }
 
     #[test]
-    #[should_panic(expected = "returned 16")]
+    #[should_panic(expected = "returned 17")]
     fn an_unknown_number_is_no_refusal() {
-        let _ = accepted(16);
+        let _ = accepted(17);
     }
 
     #[test]

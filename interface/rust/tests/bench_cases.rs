@@ -1,8 +1,8 @@
-//! The bench cases of the scope, starred ones included, and of orders 1 and 2, through the boundary.
+//! The bench cases of the scope, starred ones included, and of orders 1 to 3, through the boundary.
 
 use share_sheet::{
-    cancel, degree, limits, read, row, share, shares, sheet_line, whole_sheet, Counts, Fraction,
-    Limits, Refusal,
+    cancel, degree, limits, read, row, share, shares, sheet_line, whole_sheet, write, Counts,
+    Fraction, Limits, Refusal,
 };
 
 /// Three buses in a row, each with need 1.
@@ -30,6 +30,21 @@ fn table(file: &[u8]) -> Vec<u16> {
     let Counts { buses, lines } = read(file, &mut table).unwrap();
     table.truncate(2 * buses + 2 + 2 * lines);
     table
+}
+
+/// Tests that a table is written as `file`: into just as many bytes, and into more, of which the
+/// later ones stay. With one byte less, and with none, it is refused, and the bytes stay.
+fn writes(table: &[u16], file: &[u8]) {
+    let mut lent = vec![7; file.len() + 2];
+    for short in [0, file.len() - 1] {
+        assert_eq!(write(table, &mut lent[..short]), Err(Refusal::BytesTooShort));
+        assert!(lent.iter().all(|&byte| byte == 7));
+    }
+    for length in [file.len(), lent.len()] {
+        lent.fill(7);
+        assert_eq!(write(table, &mut lent[..length]), Ok(file.len()));
+        assert_eq!(lent, [file, &[7, 7]].concat());
+    }
 }
 
 /// Tests that a file's shares are `numerators` over `over`: of all buses in one call, and bus by
@@ -263,6 +278,29 @@ fn lent_tables() {
 }
 
 #[test]
+fn written_files() {
+    writes(&PATH_TABLE, &PATH);
+    // entries behind the table do not matter
+    writes(&[&PATH_TABLE[..], &[1, 2, 3]].concat(), &PATH);
+    writes(&[1, 24, 0, 0], &[1, 0, 24, 0, 0]);
+    // built in memory
+    let built = [4, 1, 2, 1, 24, 0, 1, 3, 4, 6, 3, 2, 3, 1, 0, 1];
+    writes(&built, &file(&[1, 2, 1, 24], &[(0, 3), (1, 2), (1, 3)]));
+    // by numbers, and not by their bytes, of which the low one stands in front
+    let high = [(0, 2), (0, 255), (0, 256), (1, 257), (2, 3), (255, 256), (256, 258), (257, 258)];
+    let high = file(&[1; 512], &high);
+    writes(&table(&high), &high);
+}
+
+/// Of equal records one is written.
+#[test]
+fn written_parallel_circuits() {
+    let twice = [(0, 1), (0, 1), (0, 2), (1, 2), (1, 2), (1, 2)];
+    writes(&table(&file(&[1; 3], &twice)), &file(&[1; 3], &[(0, 1), (0, 2), (1, 2)]));
+    writes(&table(&file(&[1; 2], &[(0, 1); 5_888])), &file(&[1; 2], &[(0, 1)]));
+}
+
+#[test]
 fn no_network() {
     let mut numerators = [7; 3];
     let mut text = [7; 80];
@@ -276,6 +314,8 @@ fn no_network() {
         assert_eq!(sheet_line(table, 9, &mut []), Err(Refusal::NoNetwork));
         assert_eq!(whole_sheet(table, &mut text), Err(Refusal::NoNetwork));
         assert_eq!(whole_sheet(table, &mut []), Err(Refusal::NoNetwork));
+        assert_eq!(write(table, &mut text), Err(Refusal::NoNetwork));
+        assert_eq!(write(table, &mut []), Err(Refusal::NoNetwork));
     }
     assert_eq!(numerators, [7; 3]);
     assert_eq!(text, [7; 80]);
@@ -329,6 +369,7 @@ fn lengths_that_are_enough() {
     let mut table = vec![0; most.entries];
     assert_eq!(read(&largest, &mut table), Ok(Counts { buses: 512, lines: 5_888 }));
     assert_eq!(read(&largest, &mut table[..12_801]), Err(Refusal::TableTooShort));
+    writes(&table, &largest);
     scores(&largest, 5_354_228_880, &[5_354_228_880; 512]);
     let mut text = vec![0; most.text_bytes];
     assert!(whole_sheet(&table, &mut text).is_ok());

@@ -5,16 +5,17 @@ mod made;
 mod plain;
 
 use made::{Network, Random};
-use share_sheet::{Counts, Fraction, Refusal};
+use share_sheet::{limits, Counts, Fraction, Refusal};
 use std::fmt::Debug;
 
 const FILES: usize = 130_000;
 const TABLES: usize = 130_000;
+const ROUND_TRIPS: usize = 100_000;
 const FRACTIONS: usize = 500_000;
 
 /// How often a call was accepted (entry 0) and refused with each number.
 #[derive(Clone, Copy, Default)]
-struct Tally([usize; 16]);
+struct Tally([usize; 17]);
 
 impl Tally {
     fn count<A>(&mut self, answer: &Result<A, u8>) {
@@ -36,6 +37,7 @@ impl Tally {
 #[derive(Default)]
 struct Tallies {
     read: Tally,
+    write: Tally,
     degree: Tally,
     row: Tally,
     shares: Tally,
@@ -46,6 +48,7 @@ struct Tallies {
 
 impl Tallies {
     fn show_table_calls(&self) {
+        self.write.shows("write", &[11, 16]);
         self.degree.shows("degree", &[11, 13]);
         self.row.shows("row", &[11, 13]);
         self.shares.shows("shares", &[11, 12]);
@@ -294,7 +297,7 @@ fn call_all(table: &[u16], random: &mut Random, tallies: &mut Tallies) {
         tallies.share.count(&share);
 
         let line = |text: &mut [u8]| plain::sheet_line(table, bus, text);
-        for length in text_lengths(line(&mut buffer), random) {
+        for length in byte_lengths(line(&mut buffer), random) {
             let library = |text: &mut [u8]| share_sheet::sheet_line(table, bus, text);
             let (answer, _) = alike(&marks(length), 0xA5, library, line);
             tallies.line.count(&answer);
@@ -312,17 +315,25 @@ fn call_all(table: &[u16], random: &mut Random, tallies: &mut Tallies) {
     }
 
     let whole = |text: &mut [u8]| plain::whole_sheet(table, text);
-    for length in text_lengths(whole(&mut buffer), random) {
+    for length in byte_lengths(whole(&mut buffer), random) {
         let library = |text: &mut [u8]| share_sheet::whole_sheet(table, text);
         let (answer, _) = alike(&marks(length), 0xA5, library, whole);
         tallies.whole.count(&answer);
     }
 
+    let write = |file: &mut [u8]| plain::write(table, file);
+    for length in byte_lengths(write(&mut buffer), random) {
+        let library = |file: &mut [u8]| share_sheet::write(table, file);
+        let (answer, _) = alike(&marks(length), 0xA5, library, write);
+        tallies.write.count(&answer);
+    }
+
     assert_eq!(table, before);
 }
 
-/// No bytes, a byte too few, just enough and more, for a text whose byte count or refusal is given.
-fn text_lengths(written: Result<usize, u8>, random: &mut Random) -> Vec<usize> {
+/// No bytes, a byte too few, just enough and more, for a text or a file whose byte count or refusal
+/// is given.
+fn byte_lengths(written: Result<usize, u8>, random: &mut Random) -> Vec<usize> {
     match written {
         Ok(bytes) => vec![0, bytes - 1, bytes, bytes + 1 + random.below(9)],
         Err(_) => vec![0, 40],
@@ -414,6 +425,117 @@ fn tables() {
         call_all(&table, &mut random, &mut tallies);
     }
     tallies.show_table_calls();
+}
+
+/// How many networks were read, written and read again, and how many of each kind.
+#[derive(Debug, Default)]
+struct RoundTrips {
+    /// Their files have no parallel circuits, and are given back; they have some, and are not.
+    without_parallels: usize,
+    with_parallels: usize,
+    /// One bus; as many buses as may be; no line at all.
+    one_bus: usize,
+    most_buses: usize,
+    no_line: usize,
+    /// 23 lines at each bus; the largest file that there is.
+    full: usize,
+    largest: usize,
+    /// Calls that were lent no byte, a byte too few, just enough, more, and as many as are enough
+    /// for every file.
+    no_byte: usize,
+    a_byte_short: usize,
+    just_enough: usize,
+    more: usize,
+    enough_for_all: usize,
+}
+
+impl RoundTrips {
+    /// Counts a network; `once` is the same with one record for each pair.
+    fn count_network(&mut self, network: &Network, once: &Network) {
+        let (n, m) = (once.needs.len(), once.records.len());
+        self.without_parallels += usize::from(network.records.len() == m);
+        self.with_parallels += usize::from(network.records.len() > m);
+        self.one_bus += usize::from(n == 1);
+        self.most_buses += usize::from(n == 512);
+        self.no_line += usize::from(m == 0);
+        self.full += usize::from(2 * m == 23 * n);
+        self.largest += usize::from(m == made::MOST_RECORDS);
+    }
+
+    /// Counts a call that lends so many bytes for a file of `bytes`.
+    fn count_call(&mut self, length: usize, bytes: usize) {
+        self.no_byte += usize::from(length == 0);
+        self.a_byte_short += usize::from(length + 1 == bytes);
+        self.just_enough += usize::from(length == bytes);
+        self.more += usize::from(length > bytes);
+        self.enough_for_all += usize::from(length == limits().file_bytes);
+    }
+
+    fn show(&self) {
+        println!("{self:?}");
+        assert_eq!(self.without_parallels + self.with_parallels, ROUND_TRIPS);
+        assert!(self.without_parallels >= 50_000 && self.with_parallels >= 20_000, "{self:?}");
+        assert!(self.one_bus >= 1_000 && self.most_buses >= 100, "{self:?}");
+        assert!(self.no_line >= 1_000 && self.full >= 100 && self.largest > 0, "{self:?}");
+        for calls in [self.no_byte, self.a_byte_short, self.just_enough, self.more] {
+            assert!(calls >= ROUND_TRIPS, "{self:?}");
+        }
+        assert!(self.enough_for_all >= 1_000, "{self:?}");
+    }
+}
+
+/// Reads a file that is sound into so many entries.
+fn table_of(file: &[u8], entries: usize) -> (Counts, Vec<u16>) {
+    let mut table = marks(entries);
+    let counts = share_sheet::read(file, &mut table).expect("the file is sound");
+    (counts, table)
+}
+
+/// Files are read, written and read again; tables built in memory are written and read. What is
+/// written is the file with one record for each pair, so that a file without parallel circuits is
+/// given back.
+#[test]
+fn round_trips() {
+    let mut random = Random::new(0x5EED_0707_11E5);
+    let mut trips = RoundTrips::default();
+    for _ in 0..ROUND_TRIPS {
+        let network = Network::random(&mut random);
+        let once = network.once();
+        trips.count_network(&network, &once);
+        let (file, wanted) = (network.file(), once.file());
+        let (buses, lines) = (once.needs.len(), once.records.len());
+        let (entries, bytes) = (2 * buses + 2 + 2 * lines, 4 + buses + 4 * lines);
+
+        let (counts, table) = table_of(&file, entries);
+        assert_eq!(counts, Counts { buses, lines });
+        let mut lengths = vec![0, random.below(bytes), bytes - 1, bytes, bytes + 1];
+        if random.one_in(50) {
+            lengths.push(limits().file_bytes);
+        }
+        for length in lengths {
+            let library = |lent: &mut [u8]| share_sheet::write(&table, lent);
+            let copied = |lent: &mut [u8]| {
+                lent.get_mut(..bytes).ok_or(16)?.copy_from_slice(&wanted);
+                Ok(bytes)
+            };
+            let (answer, lent) = alike(&marks(length), 0xA5, library, copied);
+            trips.count_call(length, bytes);
+            if answer.is_ok() {
+                assert_eq!(lent[..bytes] == file, network.records.len() == lines);
+                assert_eq!(table_of(&lent[..bytes], entries), (counts, table.clone()));
+            }
+        }
+
+        let mut built = made::table(&network.needs, &network.rows());
+        let behind = random.below(4);
+        built.extend(marks::<u16>(behind));
+        let mut lent = marks(bytes);
+        assert_eq!(share_sheet::write(&built, &mut lent), Ok(bytes));
+        assert_eq!(lent, wanted);
+        built.truncate(entries);
+        assert_eq!(table_of(&lent, entries), (counts, built));
+    }
+    trips.show();
 }
 
 /// 513 buses are one too many for a table, whatever else it has.

@@ -154,6 +154,18 @@ fn measure_read(file: &[u8], refusal: Option<u8>) -> [f64; 2] {
     )
 }
 
+fn measure_write(table: &[u16]) -> [f64; 2] {
+    let mut files = [vec![0; limits().file_bytes], vec![0; limits().file_bytes]];
+    let [mine, other] = &mut files;
+    let bytes = share_sheet::write(table, mine).expect("the network is sound");
+    assert_eq!(plain::write(table, other), Ok(bytes));
+    assert_eq!(mine, other);
+    measure(
+        || _ = black_box(share_sheet::write(black_box(table), black_box(mine))),
+        || _ = black_box(plain::write(black_box(table), black_box(other))),
+    )
+}
+
 fn measure_shares(table: &[u16]) -> [f64; 2] {
     let mut numerators = [vec![0; limits().buses], vec![0; limits().buses]];
     let [mine, other] = &mut numerators;
@@ -201,6 +213,7 @@ fn print_calls(network: &Network) {
             "Read, refused: last two records swapped",
             measure_read(&network.last_swapped(), Some(15)),
         ),
+        ("Write", measure_write(&table)),
         ("Shares", measure_shares(&table)),
         ("Share, mean over all buses", measure_share(&table)),
         ("whole sheet, one call", measure_whole_sheet(&table)),
@@ -239,19 +252,26 @@ fn print_repeats() {
 }
 
 fn print_growth(network: impl Fn(u16) -> Network) {
-    println!("| Buses | Entries | Read, library | Read, plain | Shares, library | Shares, plain |");
-    println!("|---|---|---|---|---|---|");
+    println!(
+        "| Buses | Entries | Read, library | Read, plain | Write, library | Write, plain \
+         | Shares, library | Shares, plain |"
+    );
+    println!("|---|---|---|---|---|---|---|---|");
     let mut buses = 16;
     while usize::from(buses) <= limits().buses {
         let network = network(buses);
         let table = network.table();
         let entries = table.len();
-        let each = |times: [f64; 2]| times.map(|time| time / entries as f64);
-        let [read, plain_read] = each(measure_read(&network.ascending(), None));
-        let [shares, plain_shares] = each(measure_shares(&table));
-        println!(
-            "| {buses} | {entries} | {read:.2} | {plain_read:.2} | {shares:.2} | {plain_shares:.2} |"
-        );
+        let calls = [
+            measure_read(&network.ascending(), None),
+            measure_write(&table),
+            measure_shares(&table),
+        ];
+        print!("| {buses} | {entries} |");
+        for time in calls.concat() {
+            print!(" {:.2} |", time / entries as f64);
+        }
+        println!();
         buses *= 2;
     }
 }

@@ -295,6 +295,13 @@ impl Network {
         file
     }
 
+    /// The network with one record for each pair, if its records are in order.
+    pub fn once(&self) -> Self {
+        let mut records = self.records.clone();
+        records.dedup();
+        Network { needs: self.needs.clone(), records }
+    }
+
     /// The neighbours of each bus, ascending and each once.
     pub fn rows(&self) -> Vec<Vec<u16>> {
         let mut rows = vec![Vec::new(); self.needs.len()];

@@ -1,4 +1,4 @@
-//! A second reading of the scope and of orders 1 and 2 in plain safe Rust, which shares nothing with
+//! A second reading of the scope and of orders 1 to 3 in plain safe Rust, which shares nothing with
 //! the library. Tests compare the library with it, and the benchmark measures against it. Refusals
 //! are their numbers.
 #![allow(dead_code)] // each program that has this module uses a part of it
@@ -204,6 +204,28 @@ fn divisor(mut a: u64, mut b: u64) -> u64 {
     a
 }
 
+/// Writes the network file of a table into `file`; gives its bytes.
+pub fn write(table: &[u16], file: &mut [u8]) -> Result<usize, u8> {
+    let network = Network::of(table)?;
+    // each line is found at both of its ends, and counts once
+    let mut pairs = Vec::with_capacity(network.links.len());
+    for bus in 0..network.n as u16 {
+        let row = network.row(bus.into()).iter();
+        pairs.extend(row.map(|&other| (bus.min(other), bus.max(other))));
+    }
+    pairs.sort_unstable();
+    pairs.dedup();
+
+    let mut content = (network.n as u16).to_le_bytes().to_vec();
+    content.extend(network.needs.iter().map(|&need| need as u8));
+    content.extend((pairs.len() as u16).to_le_bytes());
+    for (a, b) in pairs {
+        content.extend(a.to_le_bytes());
+        content.extend(b.to_le_bytes());
+    }
+    put(&content, file).ok_or(16)
+}
+
 /// The degree of a bus.
 pub fn degree(table: &[u16], bus: usize) -> Result<usize, u8> {
     Ok(row(table, bus)?.len())
@@ -257,7 +279,7 @@ pub fn sheet_line(table: &[u16], line: usize, text: &mut [u8]) -> Result<usize, 
         None => network.heading(l),
         Some(bus) => network.line(bus, network.numerator(bus, l), l),
     };
-    write(&content, text)
+    put(content.as_bytes(), text).ok_or(14)
 }
 
 /// Writes all lines; gives their bytes.
@@ -268,10 +290,11 @@ pub fn whole_sheet(table: &[u16], text: &mut [u8]) -> Result<usize, u8> {
     for (bus, &numerator) in network.numerators(l).iter().enumerate() {
         sheet += &network.line(bus, numerator, l);
     }
-    write(&sheet, text)
+    put(sheet.as_bytes(), text).ok_or(14)
 }
 
-fn write(content: &str, text: &mut [u8]) -> Result<usize, u8> {
-    text.get_mut(..content.len()).ok_or(14)?.copy_from_slice(content.as_bytes());
-    Ok(content.len())
+/// Copies bytes to the front of those that are lent, if they fit; gives how many they are.
+fn put(content: &[u8], lent: &mut [u8]) -> Option<usize> {
+    lent.get_mut(..content.len())?.copy_from_slice(content);
+    Some(content.len())
 }
