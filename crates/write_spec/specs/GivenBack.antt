@@ -32,7 +32,7 @@ use Rattle.read_spec.specs.Recorded.{recorded}
 use Rattle.write_spec.specs.FileOf.{word, recordOf, pairRecords, fileOf}
 use Rattle.write_spec.specs.RoundTrip.{AreBytes, NoParallels, GivenBack}
 use Rattle.write_spec.specs.WrittenBytes.{listed, records-listed, sections-again}
-use Rattle.write_spec.specs.PairLaws.{isPair, pairs, lower, upper, records-pairs}
+use Rattle.write_spec.specs.PairLaws.{isPair, pairs, lowerBus, upperBus, records-pairs}
 use Rattle.write_spec.specs.WriteDue.{fitting}
 
 -- a part of bytes
@@ -115,16 +115,16 @@ module _ (f x : List ℕ) {c : Counts} (bytes : AreBytes f) (e : readOutcome f (
       (mapBelow-ascends number m (λ j k l h. rank-rises ordered j k l h (new k h)))
       (λ y. same-test (has y (mapBelow m number)) (ltb y (n * maxBuses) && isPair (row t) y) (to-pairs y) (of-pairs y))
 
-  -- so the table's records are the file's
   same-lines : lines t ≡ m
   same-lines = stored .lined ∙ single
 
+  -- so the records of the table's file are the file's own
   same-records : pairRecords (busCount t) (row t) ≡ r
   unfolding records
   same-records =
       let number-at : (k : ℕ) → k < m → at (pairs n (row t)) k ≡ number k = λ k h. ap (λ l. at l k) same-pairs ∙ mapBelow-at number m h in
       records-pairs t (stored .holding)
-      ∙ ap₂ (λ n m. listed (lower n (row t)) (upper n (row t)) m) (stored .buses) same-lines
+      ∙ ap₂ (λ n m. listed (lowerBus n (row t)) (upperBus n (row t)) m) (stored .buses) same-lines
       ∙ joinBelow-same _ _ m (λ k h. ap₂ recordOf (ap (λ c. c / maxBuses) (number-at k h) ∙ first-of k h) (ap (λ c. c % maxBuses) (number-at k h) ∙ second-of k h))
       ∙ records-listed m r (length-records (whole f x e)) (part-bytes (recordsAt f) (fileEnd f) f bytes)
 

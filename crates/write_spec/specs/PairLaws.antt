@@ -32,11 +32,11 @@ unfoldable pub pairs : ℕ → (ℕ → List ℕ) → List ℕ
 pairs n rows = listBelow (n * maxBuses) (isPair rows)
 
 -- pair k of them: its two buses
-abbrev pub lower : ℕ → (ℕ → List ℕ) → ℕ → ℕ
-lower n rows k = at (pairs n rows) k / maxBuses
+abbrev pub lowerBus : ℕ → (ℕ → List ℕ) → ℕ → ℕ
+lowerBus n rows k = at (pairs n rows) k / maxBuses
 
-abbrev pub upper : ℕ → (ℕ → List ℕ) → ℕ → ℕ
-upper n rows k = at (pairs n rows) k % maxBuses
+abbrev pub upperBus : ℕ → (ℕ → List ℕ) → ℕ → ℕ
+upperBus n rows k = at (pairs n rows) k % maxBuses
 
 module _ (n : ℕ) (rows : ℕ → List ℕ) (few : n ≤ maxBuses) (low : (i j : ℕ) → i < n → has j (rows i) ≡ true → j < n) where
   -- what is joined over all pairs, bus by bus, is joined over their list
@@ -53,22 +53,22 @@ module _ (n : ℕ) (rows : ℕ → List ℕ) (few : n ≤ maxBuses) (low : (i j 
         let second : j ≡ (i * maxBuses + j) % maxBuses = omega arith in
         ap₂ (λ a b. cond (ltb a b && has b (rows a)) (g a b) []) first second
 
-    pub joined-pairs : joinBelow n (λ i. joinBelow n (λ j. cond (ltb i j && has j (rows i)) (g i j) [])) ≡ joinBelow (length (pairs n rows)) (λ k. g (lower n rows k) (upper n rows k))
+    pub joined-pairs : joinBelow n (λ i. joinBelow n (λ j. cond (ltb i j && has j (rows i)) (g i j) [])) ≡ joinBelow (length (pairs n rows)) (λ k. g (lowerBus n rows k) (upperBus n rows k))
     unfolding pairs at-number
     joined-pairs =
         joinBelow-same _ _ n at-bus ∙ sym (joinBelow-times n maxBuses at-number) ∙ joinBelow-passing (λ c. g (c / maxBuses) (c % maxBuses)) (isPair rows) (n * maxBuses)
 
   -- each is a pair of neighbours, the lower bus first
-  pub pairs-in : (k : ℕ) → k < length (pairs n rows) → (lower n rows k < n) × (lower n rows k < upper n rows k) × (has (upper n rows k) (rows (lower n rows k)) ≡ true)
+  pub pairs-in : (k : ℕ) → k < length (pairs n rows) → (lowerBus n rows k < n) × (lowerBus n rows k < upperBus n rows k) × (has (upperBus n rows k) (rows (lowerBus n rows k)) ≡ true)
   unfolding pairs
   pairs-in k h =
       let w = listBelow-in (n * maxBuses) (isPair rows) k h in
-      let a = lower n rows k in
-      let b = upper n rows k in
+      let a = lowerBus n rows k in
+      let b = upperBus n rows k in
       (omega (arith, w .0), ltb-true a b (and-left (ltb a b) (has b (rows a)) (w .1)), and-right (ltb a b) (has b (rows a)) (w .1))
 
   -- each such pair is among them
-  pub in-pairs : (i j : ℕ) → i < n → i < j → has j (rows i) ≡ true → (k : ℕ) × (k < length (pairs n rows)) × (lower n rows k ≡ i) × (upper n rows k ≡ j)
+  pub in-pairs : (i j : ℕ) → i < n → i < j → has j (rows i) ≡ true → (k : ℕ) × (k < length (pairs n rows)) × (lowerBus n rows k ≡ i) × (upperBus n rows k ≡ j)
   unfolding pairs
   in-pairs i j b l h =
       let c = pairNumber i j in
@@ -79,7 +79,7 @@ module _ (n : ℕ) (rows : ℕ → List ℕ) (few : n ≤ maxBuses) (low : (i j 
       (w .0, w .1, ap (λ x. x / maxBuses) (w .2) ∙ first, ap (λ x. x % maxBuses) (w .2) ∙ second)
 
   -- and they ascend
-  pub pairs-ascend : (j k : ℕ) → j < k → k < length (pairs n rows) → pairNumber (lower n rows j) (upper n rows j) < pairNumber (lower n rows k) (upper n rows k)
+  pub pairs-ascend : (j k : ℕ) → j < k → k < length (pairs n rows) → pairNumber (lowerBus n rows j) (upperBus n rows j) < pairNumber (lowerBus n rows k) (upperBus n rows k)
   unfolding pairs
   pairs-ascend j k l h = omega (arith, listBelow-ascends (n * maxBuses) (isPair rows) j k l h)
 
@@ -126,13 +126,13 @@ module _ (t : List ℕ) (w : Holds t) where
       )
 
   -- the records of its file are theirs
-  pub records-pairs : pairRecords n (row t) ≡ listed (lower n (row t)) (upper n (row t)) (lines t)
+  pub records-pairs : pairRecords n (row t) ≡ listed (lowerBus n (row t)) (upperBus n (row t)) (lines t)
   unfolding pairRecords
   records-pairs =
-      joined-pairs n (row t) (w .shape .complete .most) neighbour-below recordOf ∙ ap (listed (lower n (row t)) (upper n (row t))) length-pairs
+      joined-pairs n (row t) (w .shape .complete .most) neighbour-below recordOf ∙ ap (listed (lowerBus n (row t)) (upperBus n (row t))) length-pairs
 
   pub length-pairRecords : length (pairRecords n (row t)) ≡ 4 * lines t
-  length-pairRecords = ap length records-pairs ∙ length-listed (lower n (row t)) (upper n (row t)) (lines t)
+  length-pairRecords = ap length records-pairs ∙ length-listed (lowerBus n (row t)) (upperBus n (row t)) (lines t)
 
   pub length-fileOf : length (fileOf t) ≡ 2 + busCount t + 2 + 4 * lines t
   unfolding fileOf

@@ -36,8 +36,8 @@ use Rattle.write_spec.specs.FileOf.{pairRecords, fileOf}
 use Rattle.write_spec.specs.WriteOutcome.{writeOutcome, bytesAfter}
 use Rattle.write_spec.specs.RoundTrip.{ReadBack}
 use Rattle.write_spec.specs.WrittenBytes.{first-written, second-written, buses-written, needs-written, lines-written, records-written}
-use Rattle.write_spec.specs.WriteDue.{held, fits, counted, fitting}
-use Rattle.write_spec.specs.PairLaws.{lower, upper, pairs-in, in-pairs, pairs-ascend, mirror, neighbour-below, length-pairs, records-pairs, length-pairRecords, length-fileOf}
+use Rattle.write_spec.specs.WriteDue.{accepted-holds, accepted-fits, accepted-bytes, fitting}
+use Rattle.write_spec.specs.PairLaws.{lowerBus, upperBus, pairs-in, in-pairs, pairs-ascend, mirror, neighbour-below, length-pairs, records-pairs, length-pairRecords, length-fileOf}
 
 -- ---- what the records of a network's file say
 
@@ -52,11 +52,11 @@ module _ (t : List ℕ) (w : Holds t) where
   r = pairRecords n (row t)
 
   -- record k names pair k
-  first-named : (k : ℕ) → k < m → firstEnd r k ≡ lower n (row t) k
-  first-named k h = ap (λ l. firstEnd l k) (records-pairs t w) ∙ first-written (lower n (row t)) (upper n (row t)) m h
+  first-named : (k : ℕ) → k < m → firstEnd r k ≡ lowerBus n (row t) k
+  first-named k h = ap (λ l. firstEnd l k) (records-pairs t w) ∙ first-written (lowerBus n (row t)) (upperBus n (row t)) m h
 
-  second-named : (k : ℕ) → k < m → secondEnd r k ≡ upper n (row t) k
-  second-named k h = ap (λ l. secondEnd l k) (records-pairs t w) ∙ second-written (lower n (row t)) (upper n (row t)) m h
+  second-named : (k : ℕ) → k < m → secondEnd r k ≡ upperBus n (row t) k
+  second-named k h = ap (λ l. secondEnd l k) (records-pairs t w) ∙ second-written (lowerBus n (row t)) (upperBus n (row t)) m h
 
   -- which are two neighbours, the lower first
   named : (k : ℕ) → k < m → (firstEnd r k < n) × (firstEnd r k < secondEnd r k) × (has (secondEnd r k) (row t (firstEnd r k)) ≡ true)
@@ -174,7 +174,7 @@ module _ (t : List ℕ) (w : Holds t) where
       (rw (same-records, same-lines, same-buses) degrees)
       (rw (same-records, same-lines, same-buses, once) room)
 
-  pub file-read : (x : List ℕ) → tableEntries n m ≤ length x → ReadBack t (fileOf t) x
+  file-read : (x : List ℕ) → tableEntries n m ≤ length x → ReadBack t (fileOf t) x
   unfolding storedTable
   file-read x room =
       let counts : networkCounts f ≡ record { buses = n; lines = m } = rw (same-records, same-lines, same-buses, once) in
@@ -187,6 +187,6 @@ module _ (t : List ℕ) (w : Holds t) where
 -- stores the table, into every slice x with so many entries
 pub read-back : (t x y : List ℕ) {bytes : ℕ} → writeOutcome t (length y) ≡ gives bytes → tableEntries (busCount t) (lines t) ≤ length x → ReadBack t (take bytes (bytesAfter t y)) x
 read-back t x y e room =
-    let h = held t (length y) e in
-    let front = written-front (fileOf t) y (counted t (length y) e ∙ sym (zero-add (length (fileOf t))), fitting t h y (fits t (length y) e) .1) in
+    let h = accepted-holds t (length y) e in
+    let front = written-front (fileOf t) y (accepted-bytes t (length y) e ∙ sym (zero-add (length (fileOf t))), fitting t h y (accepted-fits t (length y) e) .1) in
     subst (λ f. ReadBack t f x) (sym front) (file-read t (holds-facts t h) x room)

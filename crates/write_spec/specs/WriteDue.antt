@@ -30,14 +30,14 @@ module _ (t : List ℕ) (lent : ℕ) {bytes : ℕ} (e : writeOutcome t lent ≡ 
   abbrev causes : List Cause
   causes = writeCauses t lent
 
-  pub held : holds t ≡ true
-  held = not-false (holds t) (or-none _ _ (none-numbered 11 causes (no-cause causes (length (fileOf t)) e .0)) .0)
+  pub accepted-holds : holds t ≡ true
+  accepted-holds = not-false (holds t) (or-none _ _ (none-numbered 11 causes (no-cause causes (length (fileOf t)) e .0)) .0)
 
-  pub fits : length (fileOf t) ≤ lent
-  fits = ltb-false lent (length (fileOf t)) (or-none _ _ (none-numbered 16 causes (no-cause causes (length (fileOf t)) e .0)) .0)
+  pub accepted-fits : length (fileOf t) ≤ lent
+  accepted-fits = ltb-false lent (length (fileOf t)) (or-none _ _ (none-numbered 16 causes (no-cause causes (length (fileOf t)) e .0)) .0)
 
-  pub counted : bytes ≡ length (fileOf t)
-  counted = no-cause causes (length (fileOf t)) e .1
+  pub accepted-bytes : bytes ≡ length (fileOf t)
+  accepted-bytes = no-cause causes (length (fileOf t)) e .1
 
 module _ (t : List ℕ) (h : holds t ≡ true) where
   -- so a file that fits is written
