@@ -1,7 +1,7 @@
 -- What a file with sound sections satisfies, and that each test of record ends passes exactly where its facts hold: `…-facts` and `…-test`.
 use mathlib.Core.Bool.{true, false, not, _&&_}
 use mathlib.Core.List.{List, _++_}
-use mathlib.Core.Path.{_≡_, ap}
+use mathlib.Core.Path.{_≡_}
 use Prim.Native.Nat.{ℕ, _*_, _≤_, _<_}
 use native.Mathlib.Nat.{le-antisymm}
 use native.Mathlib.Omega.{arith}
@@ -11,12 +11,13 @@ use lib.ListN.{length}
 use Rattle.lists.specs.Tests.{and-left, and-right}
 use Rattle.lists.specs.Loops.{allBelow-at, allBelow-by}
 use Rattle.lists.specs.Places.{length-part}
+use Rattle.refusals.specs.Outcomes.{gives}
 use Rattle.refusals.specs.Causes.{NoneHolds, none-both}
 use Rattle.table_spec.specs.Limits.{maxBuses, maxLines, maxBytes}
 use Rattle.table_spec.specs.Holds.{needsInRange}
 use Rattle.table_spec.specs.Facts.{within-facts, within-test}
 use Rattle.file_spec.specs.FileBytes.{fileBusCount, needsEnd, needBytes, fileLineCount, recordsAt, fileEnd, records, firstEnd, secondEnd}
-use Rattle.file_spec.specs.Sections.{endsBefore, goesOn, busSectionCauses, lineCountCauses, missingCauses, endCauses, lineSectionCauses, sectionCauses, twoBuses, soundEnds}
+use Rattle.file_spec.specs.Sections.{endsBefore, goesOn, busSectionCauses, lineCountCauses, missingCauses, endCauses, lineSectionCauses, sectionCauses, counts, sectionsOutcome, twoBuses, soundEnds}
 
 -- ---- the sections
 
@@ -56,16 +57,21 @@ module _ (f : List ℕ) where
       record { first = buses-passed (a .0); lines = lines-passed (b .0); size = end-passed (b .1) }
 
 module _ {f : List ℕ} (s : SoundSections f) where
-  -- and a file whose sections are sound has no cause of refusal in them
-  pub sections-test : NoneHolds (sectionCauses f)
+  -- and a file whose sections are sound is not refused because of them
+  pub sections-test : sectionsOutcome f ≡ gives (counts f)
   unfolding endsBefore goesOn
   sections-test =
-      let n = within-test 1 maxBuses (fileBusCount f) (s .first .positive) (s .first .buses) in
-      let m = within-test 0 maxLines (fileLineCount f) (omega arith) (s .lines) in
       let reaches : (i : ℕ) → i ≤ fileEnd f → ltb (length f) i ≡ false = λ i h. le-ltb (length f) i (omega (arith, s .size)) in
-      let end : NoneHolds (missingCauses f ++ endCauses f) = (reaches (fileEnd f) (omega arith), (le-ltb (fileEnd f) (length f) (omega (arith, s .size)), tt)) in
-      let lines : NoneHolds (lineSectionCauses f) = (reaches (recordsAt f) (omega arith), (ap not m, end)) in
-      (reaches 2 (omega arith), (ap not n, (reaches (needsEnd f) (omega arith), (ap not (s .first .needs), lines))))
+      simp (
+        within-test 1 maxBuses (fileBusCount f) (s .first .positive) (s .first .buses),
+        within-test 0 maxLines (fileLineCount f) (omega arith) (s .lines),
+        s .first .needs,
+        reaches 2 (omega arith),
+        reaches (needsEnd f) (omega arith),
+        reaches (recordsAt f) (omega arith),
+        reaches (fileEnd f) (omega arith),
+        le-ltb (fileEnd f) (length f) (omega (arith, s .size)),
+      )
 
   pub length-needBytes : length (needBytes f) ≡ fileBusCount f
   unfolding needBytes

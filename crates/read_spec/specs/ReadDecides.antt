@@ -1,14 +1,14 @@
 -- How the causes of Read decide: the sections, or else the records; and what an accepted file has passed.
-use mathlib.Core.Bool.{true, false, not}
+use mathlib.Core.Bool.{true, false}
 use mathlib.Core.List.{List}
-use mathlib.Core.Path.{_≡_, subst, sym, ap}
+use mathlib.Core.Path.{_≡_, subst, sym, _∙_}
 use Prim.Native.Nat.{ℕ, _≤_}
 use borrow.Author.Tests.{not-false, le-ltb}
 use lib.ListN.{length}
 use Rattle.lists.specs.Tests.{or-none}
 use Rattle.lists.specs.Writes.{put-front}
 use Rattle.refusals.specs.Outcomes.{Outcome, gives}
-use Rattle.refusals.specs.Causes.{NoneHolds, no-cause, none-gives, none-numbered, none-both, none-append}
+use Rattle.refusals.specs.Causes.{NoneHolds, no-cause, none-gives, none-numbered, none-both, then-decides}
 use Rattle.refusals.specs.Due.{Due, stage-pass}
 use Rattle.table_spec.specs.Layout.{tableEntries}
 use Rattle.network.specs.declared.Counts.{Counts}
@@ -78,5 +78,5 @@ module _ (f t : List ℕ) where
   pub read-accepts : SoundSections f → soundEnds n m r ≡ true → outOfOrder m r ≡ false → degreeTooHigh n m r ≡ false → tableEntries n (pairCount m r) ≤ length t
       → readOutcome f (length t) ≡ gives (networkCounts f)
   read-accepts s ends order degrees room =
-      let passed : NoneHolds (recordCauses n m r (length t)) = (ap not ends, (order, (degrees, (le-ltb (length t) (tableEntries n (pairCount m r)) room, tt)))) in
-      none-gives (readCauses f (length t)) (networkCounts f) (none-append (sectionCauses f) (recordCauses n m r (length t)) (sections-test s) passed)
+      then-decides (recordCauses n m r (length t)) (counts f) (networkCounts f) (sectionCauses f) (sections-test s)
+      ∙ simp (ends, order, degrees, le-ltb (length t) (tableEntries n (pairCount m r)) room)

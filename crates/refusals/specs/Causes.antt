@@ -73,10 +73,6 @@ pub none-both : (cs ds : List Cause) → NoneHolds (cs ++ ds) → NoneHolds cs �
 none-both [] ds h = (tt, h)
 none-both (c ∷ cs) ds h = let z = none-both cs ds (h .1) in ((h .0, z .0), z .1)
 
-pub none-append : (cs ds : List Cause) → NoneHolds cs → NoneHolds ds → NoneHolds (cs ++ ds)
-none-append [] ds h g = g
-none-append (c ∷ cs) ds h g = (h .0, none-append cs ds (h .1) g)
-
 module _ {A B : Type 0} where
   -- what the first gives is left to the second to decide
   abbrev orElse : Outcome A → Outcome B → Outcome B

@@ -8,4 +8,3 @@ pub mod PairLaws
 pub mod WriteDue
 pub mod ReadBack
 pub mod GivenBack
-pub mod BeyondFile

@@ -1,6 +1,6 @@
--- How the writer comes out, and that the bytes of the largest file are enough for it.
+-- How the writer comes out, that the bytes of the largest file are enough for it, and that entries beyond the table never matter.
 use mathlib.Core.Bool.{true}
-use mathlib.Core.List.{List}
+use mathlib.Core.List.{List, _++_}
 use mathlib.Core.Path.{_≡_, refl}
 use Prim.Native.Nat.{ℕ, _≤_}
 use native.Mathlib.Nat.{le-trans}
@@ -13,10 +13,13 @@ use Rattle.refusals.specs.Outcomes.{Outcome, gives, Cause}
 use Rattle.refusals.specs.Causes.{no-cause, none-numbered}
 use Rattle.refusals.specs.Due.{Due, both}
 use Rattle.table_spec.specs.Limits.{maxBytes}
+use Rattle.table_spec.specs.Layout.{entries, startsAt, lines}
 use Rattle.table_spec.specs.Holds.{holds}
+use Rattle.table_spec.specs.TableOutcomes.{SameNetwork}
 use Rattle.table_spec.specs.Facts.{holds-facts}
 use Rattle.table_spec.specs.LineCount.{lines-le}
-use Rattle.write_spec.specs.FileOf.{fileOf}
+use Rattle.table_spec.specs.BeyondTable.{beyond}
+use Rattle.write_spec.specs.FileOf.{pairRecords, fileOf}
 use Rattle.write_spec.specs.WriteOutcome.{writeCauses, writeOutcome, bytesAfter}
 use Rattle.write_spec.specs.PairLaws.{length-fileOf}
 
@@ -51,3 +54,16 @@ module _ (t : List ℕ) (h : holds t ≡ true) where
   -- so a call that is lent so many bytes is not refused for want of them
   pub never-short : (x : List ℕ) → maxBytes ≤ length x → writeOutcome t (length x) ≡ gives (length (fileOf t))
   never-short x l = fitting x (le-trans file-fits l) .0
+
+-- slices that are the same network have the same file
+pub same-file : {a b : List ℕ} → SameNetwork a b → fileOf a ≡ fileOf b
+unfolding fileOf pairRecords lines
+same-file w = simp (w .sizes, w .needed, w .rows)
+
+-- ENTRIES BEYOND THE TABLE NEVER MATTER, x or y
+pub beyond-file : (t x y : List ℕ) → entries (startsAt t) t ≤ length t → (bytes : List ℕ)
+    → (writeOutcome (t ++ x) (length bytes) ≡ writeOutcome (t ++ y) (length bytes)) × (bytesAfter (t ++ x) bytes ≡ bytesAfter (t ++ y) bytes)
+beyond-file t x y w bytes =
+    let s = beyond t x y w in
+    let e = same-file s in
+    rw (s .judged, e) (refl, refl)
