@@ -1,16 +1,16 @@
 -- Records in order: a pair that is named again stands next to its like, and every neighbour that a record gives a bus is above those that the
 -- records before it gave, so that rows only grow at their ends.
-use mathlib.Core.Bool.{true, false, cond, _&&_, _||_, or-false, and-false, and-true}
+use mathlib.Core.Bool.{true, false, true≢false, cond, _||_, or-false, and-false, and-true}
 use mathlib.Core.List.{List, [], _∷_, _++_}
 use mathlib.Core.Logic.{⊎-elim}
 use mathlib.Core.Path.{_≡_, sym, _∙_}
 use Prim.Native.Nat.{ℕ, zero, suc, _+_, _-_, _*_, _≤_, _<_}
 use native.Mathlib.Omega.{arith}
-use borrow.Author.Tests.{ltb-true, ltb-false, eqb-true, eqb-false, eq-eqb, ne-eqb, lt-ltb, le-ltb}
+use borrow.Author.Tests.{ltb-true, ltb-false, eqb-true, eqb-false, ne-eqb, lt-ltb, le-ltb}
 use lib.Dec.{ltb, eqb}
 use lib.ListN.{length}
 use Rattle.lists.specs.Below.{joinBelow}
-use Rattle.lists.specs.Tests.{split, fails, never-both, or-none, eqb-self, eqb-comm}
+use Rattle.lists.specs.Tests.{split, never-both, or-none, eqb-self, eqb-comm}
 use Rattle.lists.specs.Loops.{last-or, anyBelow-none, anyBelow-fails}
 use Rattle.lists.specs.ListBelow.{listBelow-same, listBelow-more}
 use Rattle.table_spec.specs.Limits.{maxBuses, maxLines}
@@ -19,13 +19,6 @@ use Rattle.file_spec.specs.SoundSections.{SoundEnds}
 use Rattle.file_spec.specs.RecordOrder.{turned, pairBelow, falls, outOfOrder}
 use Rattle.file_spec.specs.Records.{joins, joined, neighbours, repeats}
 use Rattle.file_spec.specs.RecordPairs.{joined-at, joined-by, neighbours-next, pairCount-le, rows-length}
-
--- a pair that is not below another
-pair-facts : (a b c d : ℕ) → pairBelow a b c d ≡ false → (c ≤ a) × (a ≡ c → d ≤ b)
-unfolding pairBelow
-pair-facts a b c d h =
-    let z = or-none (ltb a c) (eqb a c && ltb b d) h in
-    (ltb-false a c (z .0), λ e. ltb-false b d (fails (ltb b d) (λ t. never-both (rw (eq-eqb a c e) t) (z .1))))
 
 -- a record that has the ends of an earlier one names its pair again
 pub repeats-by : (r : List ℕ) (i k : ℕ) → i < k → firstEnd r i ≡ firstEnd r k → secondEnd r i ≡ secondEnd r k → repeats r k ≡ true
@@ -36,10 +29,20 @@ repeats-by r i k l e f = joined-by k r (firstEnd r k) (secondEnd r k) i l e f
 abbrev pub pairNumber : ℕ → ℕ → ℕ
 pairNumber a b = a * maxBuses + b
 
-pair-test : (a b c d : ℕ) → b < maxBuses → d < maxBuses → pairNumber c d ≤ pairNumber a b → pairBelow a b c d ≡ false
+-- a pair is not below another just where its number is no less
+pair-facts : (a b c d : ℕ) → d < maxBuses → pairBelow a b c d ≡ false → pairNumber c d ≤ pairNumber a b
 unfolding pairBelow
-pair-test a b c d lb ld h =
-    rw (le-ltb a c (omega arith)) (split (eqb a c) (λ e. let q = eqb-true a c e in rw e (le-ltb b d (omega arith))) (λ e. rw e))
+pair-facts a b c d l h =
+    split (ltb a c) (λ e. absurd (true≢false (simp e at h)))
+    (λ e. split (eqb a c)
+    (λ q. split (ltb b d) (λ f. absurd (true≢false (simp (e, q, f) at h))) (λ f. omega (arith, eqb-true a c q, ltb-false b d f)))
+    (λ q. let n : a ≡ c → ⊥ = eqb-false a c q in omega (arith, ltb-false a c e, n)))
+
+pair-test : (a b c d : ℕ) → b < maxBuses → pairNumber c d ≤ pairNumber a b → pairBelow a b c d ≡ false
+unfolding pairBelow
+pair-test a b c d l h =
+    let first : ltb a c ≡ false = le-ltb a c (omega arith) in
+    split (eqb a c) (λ e. let q = eqb-true a c e in simp (first, e, le-ltb b d (omega arith))) (λ e. simp (first, e))
 
 -- records of buses within the limit, the lower first, are in order where their pairs' numbers never fall
 pub order-test : (m : ℕ) (r : List ℕ) → ((k : ℕ) → k < m → (firstEnd r k < secondEnd r k) × (secondEnd r k < maxBuses))
@@ -51,7 +54,7 @@ order-test m r lower grows =
     rw (le-ltb (secondEnd r k) (firstEnd r k) (omega (arith, up .0)))
     (split (ltb 0 k)
     (λ e. let p = ltb-true 0 k e in
-    rw e (pair-test _ _ _ _ (up .1) (lower (k - 1) (omega arith) .1) (grows (k - 1) k (omega arith) l)))
+    rw e (pair-test _ _ _ _ (up .1) (grows (k - 1) k (omega arith) l)))
     (λ e. rw e))
 
 -- m records of n buses, whose ends are sound and which are in order
@@ -81,13 +84,8 @@ module _ {n m : ℕ} {r : List ℕ} (g : OrderedRecords n m r) where
   rank-next : (k : ℕ) → 0 < k → k < m → rank (k - 1) ≤ rank k
   unfolding outOfOrder falls rank
   rank-next k l b =
-      let a = firstEnd r k in
-      let c = firstEnd r (k - 1) in
       let z = or-none (turned r k) (falls r k) (anyBelow-none (λ k. turned r k || falls r k) m (g .order) b) in
-      let f = pair-facts a (secondEnd r k) c (secondEnd r (k - 1)) (rw (lt-ltb 0 k l) at (z .1)) in
-      split (eqb a c)
-      (λ e. let q = eqb-true a c e in omega (arith, q, f .1 q))
-      (λ e. let d : a ≡ c → ⊥ = eqb-false a c e in omega (arith, d, f .0, g .ends (k - 1) (omega arith) .1, g .buses))
+      pair-facts _ _ _ _ (omega (arith, g .ends (k - 1) (omega arith) .1, g .buses)) (rw (lt-ltb 0 k l) at (z .1))
 
   rank-grows : (i k : ℕ) → i ≤ k → k < m → rank i ≤ rank k
   rank-grows i zero l b = let e : i ≡ 0 = omega arith in rw e (omega arith)
@@ -106,16 +104,7 @@ module _ {n m : ℕ} {r : List ℕ} (g : OrderedRecords n m r) where
       let d : rank i ≡ rank k → ⊥ = λ e. never-both (repeats-by r i k l (omega (arith, e, x, y, g .buses)) (omega (arith, e, x, y, g .buses))) new in
       omega (arith, h, d)
 
-  -- record i stands before record k: its first bus is no higher, nor its second where the first are equal
-  before : (i k : ℕ) → i < k → k < m → (firstEnd r i ≤ firstEnd r k) × (firstEnd r i ≡ firstEnd r k → secondEnd r i ≤ secondEnd r k)
-  unfolding rank
-  before i k l b =
-      let h = rank-grows i k (omega arith) b in
-      let x = g .ends i (omega arith) .1 in
-      let y = g .ends k b .1 in
-      (omega (arith, h, x, y, g .buses), λ e. omega (arith, h, e))
-
-  -- and where it names the same pair, its ends are the same, since the lower bus stands first in both
+  -- where record k names a pair again, an earlier one has the same ends, since the lower bus stands first in both
   earlier : (k : ℕ) → k < m → repeats r k ≡ true → (i : ℕ) × (i < k) × (firstEnd r i ≡ firstEnd r k) × (secondEnd r i ≡ secondEnd r k)
   unfolding repeats
   earlier k b h =
@@ -125,7 +114,7 @@ module _ {n m : ℕ} {r : List ℕ} (g : OrderedRecords n m r) where
       (λ t. absurd (omega (arith, t .0, t .1, lower-first (w .0) (omega (arith, w .1)), lower-first k b)))
       (w .2)
 
-  -- where record k names a pair again, the one before it does
+  -- and so has the one before it
   pub repeats-facts : (k : ℕ) → k < m → repeats r k ≡ true → (0 < k) × (firstEnd r (k - 1) ≡ firstEnd r k) × (secondEnd r (k - 1) ≡ secondEnd r k)
   unfolding rank
   repeats-facts k b h =
@@ -149,21 +138,19 @@ module _ {n m : ℕ} {r : List ℕ} (g : OrderedRecords n m r) where
     first-low : (j : ℕ) → joined k r a j ≡ true → j < c
     first-low j h =
         let w = joined-at k r a j h in
-        let p = before (w .0) k (w .1) b in
-        ⊎-elim
-        (λ t. let d : secondEnd r (w .0) ≡ c → ⊥ = λ q. never-both (repeats-by r (w .0) k (w .1) (t .0) q) new in omega (arith, t .1, p .1 (t .0), d))
-        (λ t. omega (arith, t .0, p .0, lower-first k b))
-        (w .2)
+        let p = rank-rises (w .0) k (w .1) b new in
+        let x = g .ends (w .0) (omega (arith, w .1)) .1 in
+        let y = g .ends k b .1 in
+        ⊎-elim (λ t. omega (arith, t .0, t .1, p)) (λ t. omega (arith, t .0, p, x, y, g .buses, lower-first k b)) (w .2)
 
     -- and those that they give its second are below its first
     second-low : (j : ℕ) → joined k r c j ≡ true → j < a
     second-low j h =
         let w = joined-at k r c j h in
-        let p = before (w .0) k (w .1) b in
-        ⊎-elim
-        (λ t. absurd (omega (arith, t .0, p .0, lower-first k b)))
-        (λ t. let d : firstEnd r (w .0) ≡ a → ⊥ = λ q. never-both (repeats-by r (w .0) k (w .1) q (t .1)) new in omega (arith, t .0, p .0, d))
-        (w .2)
+        let p = rank-rises (w .0) k (w .1) b new in
+        let x = g .ends (w .0) (omega (arith, w .1)) .1 in
+        let y = g .ends k b .1 in
+        ⊎-elim (λ t. absurd (omega (arith, t .0, p, x, y, g .buses, lower-first k b))) (λ t. omega (arith, t .0, t .1, p)) (w .2)
 
     apart : eqb c a ≡ false
     apart = ne-eqb c a (omega (arith, lower-first k b))

@@ -53,10 +53,10 @@ module _ (n m : ℕ) (r : List ℕ) where
   abbrev tooMany : ℕ → Bool
   tooMany b = ltb maxDegree (length (neighbours n m r b))
 
-  pub neighbours-max-le : degreeTooHigh n m r ≡ false → (i : ℕ) → i < n → length (neighbours n m r i) ≤ maxDegree
-  unfolding degreeTooHigh
-  neighbours-max-le h i l = ltb-false maxDegree _ (anyBelow-none tooMany n h l)
-
   pub degrees-test : ((i : ℕ) → i < n → length (neighbours n m r i) ≤ maxDegree) → degreeTooHigh n m r ≡ false
   unfolding degreeTooHigh
   degrees-test h = anyBelow-fails tooMany n (λ i l. le-ltb maxDegree (length (neighbours n m r i)) (h i l))
+
+  pub neighbours-max-le : degreeTooHigh n m r ≡ false → (i : ℕ) → i < n → length (neighbours n m r i) ≤ maxDegree
+  unfolding degreeTooHigh
+  neighbours-max-le h i l = ltb-false maxDegree _ (anyBelow-none tooMany n h l)

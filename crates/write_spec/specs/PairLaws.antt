@@ -38,26 +38,7 @@ lowerBus n rows k = at (pairs n rows) k / maxBuses
 abbrev pub upperBus : ℕ → (ℕ → List ℕ) → ℕ → ℕ
 upperBus n rows k = at (pairs n rows) k % maxBuses
 
-module _ (n : ℕ) (rows : ℕ → List ℕ) (few : n ≤ maxBuses) (low : (i j : ℕ) → i < n → has j (rows i) ≡ true → j < n) where
-  -- what is joined over all pairs, bus by bus, is joined over their list
-  module _ (g : ℕ → ℕ → List ℕ) where
-    at-number : ℕ → List ℕ
-    at-number c = cond (isPair rows c) (g (c / maxBuses) (c % maxBuses)) []
-
-    at-bus : (i : ℕ) → i < n → joinBelow n (λ j. cond (ltb i j && has j (rows i)) (g i j) []) ≡ joinBelow maxBuses (λ j. at-number (i * maxBuses + j))
-    unfolding at-number
-    at-bus i b =
-        sym (joinBelow-more _ n maxBuses few (λ j h. rw (fails (has j (rows i)) (λ e. omega (arith, low i j b e)), and-false (ltb i j))))
-        ∙ joinBelow-same _ _ maxBuses λ j h.
-        let first : i ≡ (i * maxBuses + j) / maxBuses = omega arith in
-        let second : j ≡ (i * maxBuses + j) % maxBuses = omega arith in
-        ap₂ (λ a b. cond (ltb a b && has b (rows a)) (g a b) []) first second
-
-    pub joined-pairs : joinBelow n (λ i. joinBelow n (λ j. cond (ltb i j && has j (rows i)) (g i j) [])) ≡ joinBelow (length (pairs n rows)) (λ k. g (lowerBus n rows k) (upperBus n rows k))
-    unfolding pairs at-number
-    joined-pairs =
-        joinBelow-same _ _ n at-bus ∙ sym (joinBelow-times n maxBuses at-number) ∙ joinBelow-passing (λ c. g (c / maxBuses) (c % maxBuses)) (isPair rows) (n * maxBuses)
-
+module _ (n : ℕ) (rows : ℕ → List ℕ) where
   -- each is a pair of neighbours, the lower bus first
   pub pairs-in : (k : ℕ) → k < length (pairs n rows) → (lowerBus n rows k < n) × (lowerBus n rows k < upperBus n rows k) × (has (upperBus n rows k) (rows (lowerBus n rows k)) ≡ true)
   unfolding pairs
@@ -67,21 +48,42 @@ module _ (n : ℕ) (rows : ℕ → List ℕ) (few : n ≤ maxBuses) (low : (i j 
       let b = upperBus n rows k in
       (omega (arith, w .0), ltb-true a b (and-left (ltb a b) (has b (rows a)) (w .1)), and-right (ltb a b) (has b (rows a)) (w .1))
 
-  -- each such pair is among them
-  pub in-pairs : (i j : ℕ) → i < n → i < j → has j (rows i) ≡ true → (k : ℕ) × (k < length (pairs n rows)) × (lowerBus n rows k ≡ i) × (upperBus n rows k ≡ j)
-  unfolding pairs
-  in-pairs i j b l h =
-      let c = pairNumber i j in
-      let first : c / maxBuses ≡ i = omega (arith, low i j b h) in
-      let second : c % maxBuses ≡ j = omega (arith, low i j b h) in
-      let passes : isPair rows c ≡ true = ap₂ (λ a b. ltb a b && has b (rows a)) first second ∙ and-both (ltb i j) (has j (rows i)) (lt-ltb i j l) h in
-      let w = at-in c (pairs n rows) (has-in c (pairs n rows) (has-listBelow (isPair rows) (omega (arith, low i j b h)) ∙ passes)) in
-      (w .0, w .1, ap (λ x. x / maxBuses) (w .2) ∙ first, ap (λ x. x % maxBuses) (w .2) ∙ second)
-
   -- and they ascend
   pub pairs-ascend : (j k : ℕ) → j < k → k < length (pairs n rows) → pairNumber (lowerBus n rows j) (upperBus n rows j) < pairNumber (lowerBus n rows k) (upperBus n rows k)
   unfolding pairs
   pairs-ascend j k l h = omega (arith, listBelow-ascends (n * maxBuses) (isPair rows) j k l h)
+
+  -- where there are no more buses than may be, and rows have no other numbers
+  module _ (few : n ≤ maxBuses) (low : (i j : ℕ) → i < n → has j (rows i) ≡ true → j < n) where
+    -- each such pair is among them
+    pub in-pairs : (i j : ℕ) → i < n → i < j → has j (rows i) ≡ true → (k : ℕ) × (k < length (pairs n rows)) × (lowerBus n rows k ≡ i) × (upperBus n rows k ≡ j)
+    unfolding pairs
+    in-pairs i j b l h =
+        let c = pairNumber i j in
+        let first : c / maxBuses ≡ i = omega (arith, low i j b h) in
+        let second : c % maxBuses ≡ j = omega (arith, low i j b h) in
+        let passes : isPair rows c ≡ true = ap₂ (λ a b. ltb a b && has b (rows a)) first second ∙ and-both (ltb i j) (has j (rows i)) (lt-ltb i j l) h in
+        let w = at-in c (pairs n rows) (has-in c (pairs n rows) (has-listBelow (isPair rows) (omega (arith, low i j b h)) ∙ passes)) in
+        (w .0, w .1, ap (λ x. x / maxBuses) (w .2) ∙ first, ap (λ x. x % maxBuses) (w .2) ∙ second)
+
+    -- what is joined over all pairs, bus by bus, is joined over their list
+    module _ (g : ℕ → ℕ → List ℕ) where
+      at-number : ℕ → List ℕ
+      at-number c = cond (isPair rows c) (g (c / maxBuses) (c % maxBuses)) []
+
+      at-bus : (i : ℕ) → i < n → joinBelow n (λ j. cond (ltb i j && has j (rows i)) (g i j) []) ≡ joinBelow maxBuses (λ j. at-number (i * maxBuses + j))
+      unfolding at-number
+      at-bus i b =
+          sym (joinBelow-more _ n maxBuses few (λ j h. rw (fails (has j (rows i)) (λ e. omega (arith, low i j b e)), and-false (ltb i j))))
+          ∙ joinBelow-same _ _ maxBuses λ j h.
+          let first : i ≡ (i * maxBuses + j) / maxBuses = omega arith in
+          let second : j ≡ (i * maxBuses + j) % maxBuses = omega arith in
+          ap₂ (λ a b. cond (ltb a b && has b (rows a)) (g a b) []) first second
+
+      pub joined-pairs : joinBelow n (λ i. joinBelow n (λ j. cond (ltb i j && has j (rows i)) (g i j) [])) ≡ joinBelow (length (pairs n rows)) (λ k. g (lowerBus n rows k) (upperBus n rows k))
+      unfolding pairs at-number
+      joined-pairs =
+          joinBelow-same _ _ n at-bus ∙ sym (joinBelow-times n maxBuses at-number) ∙ joinBelow-passing (λ c. g (c / maxBuses) (c % maxBuses)) (isPair rows) (n * maxBuses)
 
 -- ---- a network
 

@@ -60,7 +60,7 @@ module _ (t : List ℕ) (w : Holds t) where
 
   -- which are two neighbours, the lower first
   named : (k : ℕ) → k < m → (firstEnd r k < n) × (firstEnd r k < secondEnd r k) × (has (secondEnd r k) (row t (firstEnd r k)) ≡ true)
-  named k h = rw (first-named k h, second-named k h) (pairs-in n (row t) (w .shape .complete .most) (neighbour-below t w) k (omega (arith, length-pairs t w)))
+  named k h = rw (first-named k h, second-named k h) (pairs-in n (row t) k (omega (arith, length-pairs t w)))
 
   ends : SoundEnds n m r
   ends k h = let z = named k h in (z .0, neighbour-below t w _ _ (z .0) (z .2), λ e. omega (arith, z .1, e))
@@ -74,7 +74,7 @@ module _ (t : List ℕ) (w : Holds t) where
         second-named j (omega arith),
         first-named k h,
         second-named k h,
-        pairs-ascend n (row t) (w .shape .complete .most) (neighbour-below t w) j k l (omega (arith, length-pairs t w)),
+        pairs-ascend n (row t) j k l (omega (arith, length-pairs t w)),
       ))
 
   -- two buses are joined exactly if they are neighbours
@@ -132,15 +132,15 @@ module _ (t : List ℕ) (w : Holds t) where
 
   same-buses : fileBusCount f ≡ n
   unfolding fileOf
-  same-buses = buses-written n m (needs t) r long full
+  same-buses = buses-written n m (needs t) r
 
   same-needs : needBytes f ≡ needs t
   unfolding fileOf
-  same-needs = needs-written n m (needs t) r long full
+  same-needs = needs-written n m (needs t) r long
 
   same-lines : fileLineCount f ≡ m
   unfolding fileOf
-  same-lines = lines-written n m (needs t) r long full
+  same-lines = lines-written n m (needs t) r long
 
   same-records : records f ≡ r
   unfolding fileOf

@@ -77,32 +77,34 @@ records-listed m r e bytes =
 -- ---- sections
 
 -- n buses with the needs q, and m records r
-module _ (n m : ℕ) (q r : List ℕ) (buses : length q ≡ n) (lines : length r ≡ 4 * m) where
+module _ (n m : ℕ) (q r : List ℕ) where
   abbrev f : List ℕ
   f = word n ++ (q ++ (word m ++ r))
-
-  pub length-sections : length f ≡ 2 + n + 2 + 4 * m
-  unfolding word
-  length-sections = omega (arith, buses, lines, length-append q (word m ++ r))
 
   pub buses-written : fileBusCount f ≡ n
   buses-written = word-front n (q ++ (word m ++ r))
 
-  pub needs-written : needBytes f ≡ q
-  unfolding needBytes word
-  needs-written = part-between (word n) q (word m ++ r) {a = 2} {e = needsEnd f} refl (omega (arith, buses-written, buses))
+  module _ (buses : length q ≡ n) where
+    pub needs-written : needBytes f ≡ q
+    unfolding needBytes word
+    needs-written = part-between (word n) q (word m ++ r) {a = 2} {e = needsEnd f} refl (omega (arith, buses-written, buses))
 
-  pub lines-written : fileLineCount f ≡ m
-  unfolding word
-  lines-written =
-      word-behind (word n) (q ++ (word m ++ r)) n (omega (arith, buses-written)) ∙ word-behind q (word m ++ r) 0 (omega (arith, buses)) ∙ word-front m r
+    pub lines-written : fileLineCount f ≡ m
+    unfolding word
+    lines-written =
+        word-behind (word n) (q ++ (word m ++ r)) n (omega (arith, buses-written)) ∙ word-behind q (word m ++ r) 0 (omega (arith, buses)) ∙ word-front m r
 
-  pub records-written : records f ≡ r
-  unfolding records word
-  records-written =
-      let front = word n ++ (q ++ word m) in
-      ap (part (recordsAt f) (fileEnd f)) (ap (λ l. word n ++ l) (sym (append-assoc q (word m) r) ∙ ap (λ l. (q ++ word m) ++ l) (sym (append-nil r))))
-      ∙ part-between front r [] {a = recordsAt f} {e = fileEnd f} (omega (arith, buses-written, buses, length-append q (word m))) (omega (arith, lines-written, lines))
+    module _ (lines : length r ≡ 4 * m) where
+      pub length-sections : length f ≡ 2 + n + 2 + 4 * m
+      unfolding word
+      length-sections = omega (arith, buses, lines, length-append q (word m ++ r))
+
+      pub records-written : records f ≡ r
+      unfolding records word
+      records-written =
+          let front = word n ++ (q ++ word m) in
+          ap (part (recordsAt f) (fileEnd f)) (ap (λ l. word n ++ l) (sym (append-assoc q (word m) r) ∙ ap (λ l. (q ++ word m) ++ l) (sym (append-nil r))))
+          ∙ part-between front r [] {a = recordsAt f} {e = fileEnd f} (omega (arith, buses-written, buses, length-append q (word m))) (omega (arith, lines-written, lines))
 
 -- a number that was read is written
 word-again : (f : List ℕ) (i : ℕ) → AreBytes f → i + 2 ≤ length f → word (wordAt f i) ≡ part i (i + 2) f

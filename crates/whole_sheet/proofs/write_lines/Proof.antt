@@ -1,13 +1,11 @@
 -- `whole_sheet::write_lines` meets its contract. The loop's invariant: the lines of the buses passed are written behind the heading.
 use borrow.Author.Needs.{needs}
 use native.Mathlib.Omega.{arith}
-use mathlib.Core.Path.{_≡_, sym, ap, _∙_}
-use Prim.Native.Nat.{suc, _+_, _-_, _*_, _≤_, _<_}
-use lib.ListN.{length, length-append}
-use Rattle.lists.specs.Lists.{at, put}
-use Rattle.lists.specs.Below.{joinBelow}
-use Rattle.lists.specs.Loops.{joinBelow-next}
-use Rattle.lists.specs.Writes.{put-none, stored-length, stored-list}
+use mathlib.Core.Path.{_≡_, refl, _∙_}
+use Prim.Native.Nat.{_+_, _-_, _*_, _≤_, _<_}
+use lib.ListN.{length}
+use Rattle.lists.specs.Lists.{at, WrittenAt}
+use Rattle.lists.specs.Writes.{stored-length, written-start, written-next}
 use Rattle.table_spec.specs.Limits.{maxBuses}
 use Rattle.table_spec.specs.Layout.{busCount}
 use Rattle.two_way.specs.TwoWay.{networkOf}
@@ -19,8 +17,7 @@ use Rattle.whole_sheet.proofs.write_lines.Tie as tie
 
 abbrev Inv-loop : tie.InvT-loop
 Inv-loop table over numerators out₀ n end₀ bus₀ out end bus =
-    let text = busLines (networkOf table) bus in
-    (bus ≤ n) × (end ≡ end₀ + length text) × (end ≤ end₀ + longestLine * bus) × (out ≡ put out₀ end₀ text)
+    (bus ≤ n) × WrittenAt (busLines (networkOf table) bus) end₀ out₀ end out × (end ≤ end₀ + longestLine * bus)
 
 abbrev μ-loop : tie.MeasureT-loop
 μ-loop table over numerators out₀ n end₀ bus₀ out end bus = n - bus
@@ -32,8 +29,7 @@ write-heading-requires : tie.Need-write-heading-requires Inv-loop μ-loop
 write-heading-requires c κs = let s = c .before .before .before .before .before in (s .pre .0, s .pre .1 .over, omega (arith, s .pre .2))
 
 loop-holds : tie.Need-loop-holds Inv-loop μ-loop
-unfolding joinBelow
-loop-holds c = (search needs, omega arith, omega arith, sym (put-none _ _))
+loop-holds c = (search needs, written-start _ _ _, omega arith)
 
 -- the heading and the lines of the buses passed are written into a slice that stays as long as it was, and is long enough
 module _ (v : tie.At-loop Inv-loop μ-loop) where
@@ -53,7 +49,7 @@ module _ (v : tie.At-loop Inv-loop μ-loop) where
 
   kept : length (v .loop .out) ≡ length (start .args .out .now)
   kept =
-      stored-length _ _ _ (v .loop .inv .3) (v .loop .inv .1) (omega (arith, headed .write-heading .ensures .1, v .loop .inv .2, v .loop .inv .0, bounded, start .pre .2, headed-kept))
+      stored-length _ _ _ (v .loop .inv .1 .1) (v .loop .inv .1 .0) (omega (arith, headed .write-heading .ensures .1, v .loop .inv .2, v .loop .inv .0, bounded, start .pre .2, headed-kept))
       ∙ headed-kept
 
 shared-slice-read-write-bus : tie.Need-shared-slice-read-write-bus Inv-loop μ-loop
@@ -75,13 +71,10 @@ write-bus-requires c κs =
 loop-again : tie.Need-loop-again Inv-loop μ-loop
 loop-again c =
     let w = c .before .before in
-    let v = w .before .before .before .before in
-    let N = networkOf (start v .args .table .now) in
-    let e = joinBelow-next (v .loop .bus) (λ v. sheetLine N (suc v)) in (
+    let v = w .before .before .before .before in (
       search needs,
-      omega (arith, w .write-bus .ensures .0 .0, v .loop .inv .1, ap length e, length-append (busLines N (v .loop .bus)) (sheetLine N (suc (v .loop .bus)))),
+      written-next _ _ _ (v .loop .inv .1) (omega (arith, headed v .write-heading .ensures .1, headed-kept v, start v .pre .2)) refl (w .write-bus .ensures .0),
       omega (arith, w .write-bus .ensures .1, v .loop .inv .2),
-      w .write-bus .ensures .0 .1 ∙ stored-list _ _ _ (v .loop .inv .3) (v .loop .inv .1) _ (omega (arith, headed v .write-heading .ensures .1, headed-kept v, start v .pre .2)) ∙ ap (put _ _) (sym e),
     )
 
 same-length : tie.Need-same-length Inv-loop μ-loop
@@ -93,7 +86,7 @@ returns c =
     let s = start v in
     let h = headed v .write-heading .ensures in
     let all : v .loop .bus ≡ busCount (s .args .table .now) = omega (arith, headed v .before .before .bus-count .ensures .0, v .loop .inv .0, c .loop-test .left) in
-    (all-written (networkOf (s .args .table .now)) (s .args .out .now) (h .0) all (v .loop .inv .1, v .loop .inv .3), omega (arith, h .1, v .loop .inv .2, v .loop .inv .0, bounded v))
+    (all-written (networkOf (s .args .table .now)) (s .args .out .now) (h .0) all (v .loop .inv .1), omega (arith, h .1, v .loop .inv .2, v .loop .inv .0, bounded v))
 
 pub write-lines-spec : {M : Type 1} → statement M
 write-lines-spec =
