@@ -64,7 +64,7 @@ module _ (n : ℕ) (rows : ℕ → List ℕ) where
         let second : c % maxBuses ≡ j = omega (arith, low i j b h) in
         let passes : isPair rows c ≡ true = ap₂ (λ a b. ltb a b && has b (rows a)) first second ∙ and-both (ltb i j) (has j (rows i)) (lt-ltb i j l) h in
         let w = at-in c (pairs n rows) (has-in c (pairs n rows) (has-listBelow (isPair rows) (omega (arith, low i j b h)) ∙ passes)) in
-        (w .0, w .1, ap (λ x. x / maxBuses) (w .2) ∙ first, ap (λ x. x % maxBuses) (w .2) ∙ second)
+        (w .0, w .1, omega (arith, w .2, first), omega (arith, w .2, second))
 
     -- what is joined over all pairs, bus by bus, is joined over their list
     module _ (g : ℕ → ℕ → List ℕ) where
