@@ -2,10 +2,9 @@
 use mathlib.Core.List.{List}
 use mathlib.Core.Logic.{⊎-elim}
 use mathlib.Core.Path.{_≡_, sym, ap, _∙_}
-use Prim.Native.Nat.{ℕ, _+_, _-_, _*_, _≤_, _<_}
-use native.Mathlib.Nat.{eq-zero-or-pos, le-trans, one-mul, mul-pos, mul-assoc, div-eq-of-eq-mul-left, div-mul-cancel, div-mul-le-self}
+use Prim.Native.Nat.{ℕ, _+_, _*_, _≤_, _<_}
+use native.Mathlib.Nat.{eq-zero-or-pos, le-trans, one-mul, div-mul-cancel, div-mul-le-self}
 use native.Mathlib.Omega.{arith}
-use borrow.Author.Tests.{le-leb, lt-leb}
 use Rattle.game.specs.Game.{neighbourTerm, neighbour}
 use Rattle.table_spec.specs.Limits.{maxDegree}
 use Rattle.table_spec.specs.Layout.{busCount, degree, need}
@@ -13,16 +12,7 @@ use Rattle.table_spec.specs.Holds.{Scorable}
 use Rattle.table_spec.specs.Rows.{degree-le}
 use Rattle.share_spec.specs.TableNetwork.{gameOf, maxDenominator, Over}
 use Rattle.share_terms.specs.Unit.{unit}
-
--- a bus that needs more neighbours than it has gives nothing
-pub term-none : (k d L : ℕ) → d < k → neighbourTerm k d L ≡ 0
-unfolding neighbourTerm
-term-none k d L l = rw (lt-leb k d l)
-
--- another gives d + 1 - k units
-pub term-met : (k d u : ℕ) → 1 ≤ k → k ≤ d → neighbourTerm k d (u * (d * (d + 1))) ≡ (d + 1 - k) * u
-unfolding neighbourTerm
-term-met k d u p l = rw (le-leb k d l) (div-eq-of-eq-mul-left (mul-pos (omega arith) (omega arith)) (sym (mul-assoc (d + 1 - k) u (d * (d + 1)))))
+use Rattle.share_terms.specs.CaseLaws.{need-above-degree}
 
 -- the need k and the degree d of a bus and its unit u, as code has them: the term that is asked for, and what it is
 module _ {t : List ℕ} (w : Scorable t) {L : ℕ} (o : Over t L) {bus d k u : ℕ} (b : bus < busCount t) (ed : d ≡ degree t bus) (ek : k ≡ need t bus) (eu : u ≡ unit L d) where
@@ -36,7 +26,7 @@ module _ {t : List ℕ} (w : Scorable t) {L : ℕ} (o : Over t L) {bus d k u : �
   term-read e =
       e
       ∙ ⊎-elim
-      (λ z. let l : d < k = omega (arith, w .needed bus b) in term-none k d _ l ∙ sym (term-none k d L l))
+      (λ z. let l : d < k = omega (arith, w .needed bus b) in sym (need-above-degree k d _ l) ∙ need-above-degree k d L l)
       (λ p. ap (neighbourTerm k d) (rw eu (div-mul-cancel (d * (d + 1)) (rw (← ed) at (o .divided bus b (rw (← ed) p))))))
       (eq-zero-or-pos d)
       ∙ rw (ed, ek) (sym (one-mul _))

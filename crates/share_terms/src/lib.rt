@@ -10,6 +10,7 @@ ghost use Rattle.table_spec.specs.Holds.{Scorable};
 ghost use Rattle.game.specs.Game.{neighbourTerm};
 ghost use Rattle.share_spec.specs.TableNetwork.{largestDegree, divisorsOf, maxDenominator};
 ghost use Rattle.share_terms.specs.Unit.{unit};
+ghost use Rattle.share_terms.specs.TermCases.{termCase};
 ghost use Rattle.share_terms.specs.Added.{Added};
 use fraction::lcm;
 use network::rows::entry;
@@ -66,15 +67,37 @@ pub fn unit(over: u64, degree: usize) -> u64
     over / ((degree * (degree + 1)) as u64)
 }
 
+// Which case a bus is in by its need and its degree, the earlier where two apply: 1 is need above degree, 2 need equal to degree, 3 need 1, and 4 need between them.
+fn term_case(need: usize, degree: usize) -> usize
+    ensures { λ r. ⌜ r ≡ termCase need degree ⌝ }
+{
+    if need > degree {
+        return 1;
+    }
+    if need == degree {
+        return 2;
+    }
+    if need == 1 {
+        return 3;
+    }
+    4
+}
+
 // What a bus gives to each neighbour, by its need, its degree d and its unit: its term over L, which is d (d + 1) units.
 pub fn term(need: usize, degree: usize, unit: u64) -> u64
     requires { ⌜ (1 ≤ need) × (degree ≤ maxDegree) × (unit * (degree * (degree + 1)) ≤ maxDenominator) ⌝ }
     ensures { λ r. ⌜ r ≡ neighbourTerm need degree (unit * (degree * (degree + 1))) ⌝ }
 {
-    if degree < need {
-        return 0;
+    match term_case(need, degree) {
+        // need above degree: 0
+        1 => 0,
+        // need equal to degree: 1 / (d (d + 1))
+        2 => unit,
+        // need 1: 1 / (d + 1)
+        3 => (degree as u64) * unit,
+        // need between them: (d + 1 - need) / (d (d + 1))
+        _ => ((degree + 1 - need) as u64) * unit,
     }
-    ((degree + 1 - need) as u64) * unit
 }
 
 // Stores zeros in the first n entries.
