@@ -44,10 +44,30 @@ struct Tallies {
     share: Tally,
     line: Tally,
     whole: Tally,
+    /// Terms of buses with neighbours, each time that a table is scored: the need is above the
+    /// degree, equal to it, 1, or between them.
+    terms: [usize; 4],
 }
 
 impl Tallies {
+    /// Counts the terms of a table that holds a network.
+    fn count_terms(&mut self, table: &[u16]) {
+        let (needs, starts) = table[1..].split_at(table[0].into());
+        for (&need, start) in needs.iter().zip(starts.windows(2)) {
+            let degree = start[1] - start[0];
+            let case = match need {
+                _ if need > degree => 0,
+                _ if need == degree => 1,
+                1 => 2,
+                _ => 3,
+            };
+            self.terms[case] += usize::from(degree > 0);
+        }
+    }
+
     fn show_table_calls(&self) {
+        println!("terms: {:?}", self.terms);
+        assert!(self.terms.iter().all(|&times| times >= 100_000), "terms: {:?}", self.terms);
         self.write.shows("write", &[11, 16]);
         self.degree.shows("degree", &[11, 13]);
         self.row.shows("row", &[11, 13]);
@@ -310,6 +330,7 @@ fn call_all(table: &[u16], random: &mut Random, tallies: &mut Tallies) {
         let (answer, numerators) = alike(&marks(length), 0xA5A5, library, plain);
         tallies.shares.count(&answer);
         if let Ok(over) = answer {
+            tallies.count_terms(table);
             assert_eq!(numerators[..n].iter().sum::<u64>(), n as u64 * over);
         }
     }

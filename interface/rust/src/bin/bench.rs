@@ -52,6 +52,17 @@ fn time(repeats: u32, mut work: impl FnMut()) -> f64 {
     start.elapsed().as_nanos() as f64 / f64::from(repeats)
 }
 
+/// Numbers below a bound, drawn at random and the same in every run.
+fn draws() -> impl FnMut(usize) -> usize {
+    let mut state = 0x5EED_u64;
+    move |bound| {
+        state ^= state << 13;
+        state ^= state >> 7;
+        state ^= state << 17;
+        (state >> 16) as usize % bound
+    }
+}
+
 struct Network {
     name: String,
     buses: u16,
@@ -116,13 +127,7 @@ impl Network {
 
     /// The file with its records in any order, and either end first: out of order from the front.
     fn shuffled(&self) -> Vec<u8> {
-        let mut state = 0x5EED_u64;
-        let mut below = |bound: usize| {
-            state ^= state << 13;
-            state ^= state >> 7;
-            state ^= state << 17;
-            (state >> 16) as usize % bound
-        };
+        let mut below = draws();
         let mut lines = self.lines.clone();
         for last in (1..lines.len()).rev() {
             lines.swap(last, below(last + 1));
@@ -139,6 +144,20 @@ impl Network {
         let mut table = vec![0; 2 * self.buses as usize + 2 + 2 * self.lines.len()];
         share_sheet::read(&self.ascending(), &mut table).expect("the network is sound");
         table
+    }
+
+    /// Tables of the network with needs at random, each from 1 to the degree of its bus.
+    fn mixed_needs(&self, tables: usize) -> Vec<Vec<u16>> {
+        let mut below = draws();
+        let mut table = self.table();
+        let mut draw = || {
+            for bus in 0..self.buses.into() {
+                let degree = share_sheet::degree(&table, bus).expect("the network is sound");
+                table[1 + bus] = 1 + below(degree) as u16;
+            }
+            table.clone()
+        };
+        (0..tables).map(|_| draw()).collect()
     }
 }
 
@@ -173,6 +192,17 @@ fn measure_shares(table: &[u16]) -> [f64; 2] {
         || _ = black_box(share_sheet::shares(black_box(table), black_box(mine))),
         || _ = black_box(plain::shares(black_box(table), black_box(other))),
     )
+}
+
+/// The mean over tables that are scored in turn.
+fn measure_shares_in_turn(tables: &[Vec<u16>]) -> [f64; 2] {
+    let mut numerators = [vec![0; limits().buses], vec![0; limits().buses]];
+    let [mine, other] = &mut numerators;
+    let all = measure(
+        || tables.iter().for_each(|table| _ = black_box(share_sheet::shares(table, mine))),
+        || tables.iter().for_each(|table| _ = black_box(plain::shares(table, other))),
+    );
+    all.map(|time| time / tables.len() as f64)
 }
 
 /// The mean over all buses.
@@ -229,6 +259,16 @@ fn print_call(network: &str, call: &str, [library, plain]: [f64; 2]) {
     println!("| {network} | {call} | {library:.0} | {plain:.0} | {ratio:.2} |");
 }
 
+/// Shares of networks that differ in their needs: too many for the processor to foresee the cases
+/// of their terms.
+fn print_mixed_needs() {
+    let most = limits().buses as u16;
+    for network in [Network::sparse(most), Network::dense(most)] {
+        let times = measure_shares_in_turn(&network.mixed_needs(200));
+        print_call(&network.name, "Shares, needs at random, mean over 200 networks", times);
+    }
+}
+
 /// Read of a file that is out of order from its front; the ends of all records are judged before.
 fn print_shuffled() {
     let network = Network::dense(limits().buses as u16);
@@ -279,7 +319,8 @@ fn print_growth(network: impl Fn(u16) -> Network) {
 fn main() {
     println!("The proved library against a plain reading of the scope in safe Rust (tests/plain).");
     println!("Times are nanoseconds, the best of many runs; library and plain reading alternate.");
-    println!("Slices are allocated before and not cleared between runs. Need 1 at each bus.");
+    println!("Slices are allocated before and not cleared between runs. Need 1 at each bus,");
+    println!("where nothing else is said.");
     println!();
     println!("| Network | Call | Library | Plain | Library / plain |");
     println!("|---|---|---|---|---|");
@@ -287,6 +328,7 @@ fn main() {
     for network in [Network::star(24), Network::sparse(most), Network::dense(most)] {
         print_calls(&network);
     }
+    print_mixed_needs();
     print_shuffled();
     print_repeats();
     println!();
