@@ -9,14 +9,7 @@ use borrow.Author.Tests.{ltb-true, ltb-false, eqb-true, eqb-false, le-leb, lt-le
 use Rattle.lists.specs.Tests.{split}
 use Rattle.game.specs.Game.{neighbourTerm}
 use Rattle.game.specs.Terms.{neighbour-one}
-use Rattle.share_terms.specs.TermCases.{termCase}
-
--- what case c says of need k and degree d; what is in none of the first three is between them
-pub record InCase (k d c : ℕ) : Type 0 where
-  pub above-degree : c ≡ 1 → d < k
-  pub equal-to-degree : c ≡ 2 → k ≡ d
-  pub one : c ≡ 3 → (k ≡ 1) × (k < d)
-  pub between : (c ≡ 1 → ⊥) → (c ≡ 2 → ⊥) → (c ≡ 3 → ⊥) → (1 < k) × (k < d)
+use Rattle.share_terms.specs.TermCases.{termCase, InCase}
 
 -- the cases cover everything: any need, which is at least 1, at any degree
 pub cases-cover : {k d c : ℕ} → 1 ≤ k → c ≡ termCase k d → InCase k d c

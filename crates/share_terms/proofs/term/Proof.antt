@@ -3,7 +3,8 @@ use borrow.Author.Needs.{needs}
 use native.Mathlib.Omega.{arith}
 use Prim.Native.Nat.{_+_, _*_, _<_}
 use Rattle.share_spec.specs.TermBounds.{term-le}
-use Rattle.share_terms.specs.CaseLaws.{InCase, cases-cover, need-above-degree, need-equal-to-degree, need-one, need-between}
+use Rattle.share_terms.specs.TermCases.{InCase}
+use Rattle.share_terms.specs.CaseLaws.{cases-cover, need-above-degree, need-equal-to-degree, need-one, need-between}
 use Rattle.share_terms.proofs.term.Statement.{statement}
 use Rattle.share_terms.proofs.term.Tie as tie
 

@@ -6,6 +6,7 @@ mod plain;
 
 use share_sheet::{limits, Refusal};
 use std::hint::black_box;
+use std::slice::from_ref;
 use std::time::{Duration, Instant};
 
 /// How long one call is measured, library and plain reading together.
@@ -185,17 +186,8 @@ fn measure_write(table: &[u16]) -> [f64; 2] {
     )
 }
 
-fn measure_shares(table: &[u16]) -> [f64; 2] {
-    let mut numerators = [vec![0; limits().buses], vec![0; limits().buses]];
-    let [mine, other] = &mut numerators;
-    measure(
-        || _ = black_box(share_sheet::shares(black_box(table), black_box(mine))),
-        || _ = black_box(plain::shares(black_box(table), black_box(other))),
-    )
-}
-
 /// The mean over tables that are scored in turn.
-fn measure_shares_in_turn(tables: &[Vec<u16>]) -> [f64; 2] {
+fn measure_shares(tables: &[Vec<u16>]) -> [f64; 2] {
     let mut numerators = [vec![0; limits().buses], vec![0; limits().buses]];
     let [mine, other] = &mut numerators;
     let all = measure(
@@ -244,7 +236,7 @@ fn print_calls(network: &Network) {
             measure_read(&network.last_swapped(), Some(15)),
         ),
         ("Write", measure_write(&table)),
-        ("Shares", measure_shares(&table)),
+        ("Shares", measure_shares(from_ref(&table))),
         ("Share, mean over all buses", measure_share(&table)),
         ("whole sheet, one call", measure_whole_sheet(&table)),
         ("whole sheet, a call for each line", measure_sheet_lines(&table)),
@@ -264,7 +256,7 @@ fn print_call(network: &str, call: &str, [library, plain]: [f64; 2]) {
 fn print_mixed_needs() {
     let most = limits().buses as u16;
     for network in [Network::sparse(most), Network::dense(most)] {
-        let times = measure_shares_in_turn(&network.mixed_needs(200));
+        let times = measure_shares(&network.mixed_needs(200));
         print_call(&network.name, "Shares, needs at random, mean over 200 networks", times);
     }
 }
@@ -305,7 +297,7 @@ fn print_growth(network: impl Fn(u16) -> Network) {
         let calls = [
             measure_read(&network.ascending(), None),
             measure_write(&table),
-            measure_shares(&table),
+            measure_shares(from_ref(&table)),
         ];
         print!("| {buses} | {entries} |");
         for time in calls.concat() {
