@@ -31,6 +31,7 @@
     14  too few bytes are lent for the text
     15  the first bus of a record is above its second, or a record is below the one before it
     16  too few bytes are lent for the file
+    17  a need is above its bus's degree, and is not 1 at a bus without lines
 
    No call allocates memory or keeps anything for the next one. share_sheet_whole takes some 30 KB
    of stack, each other call less than 8. Calls may run at the same time, as long as none writes
@@ -50,9 +51,9 @@ extern "C" {
    buses and of lines, n and m. Each record names its lower bus first, and records ascend by first
    bus, then by second. Equal records are parallel circuits and make one line, so m counts
    different pairs. The table takes 2n + 2 + 2m entries; later ones are left as they were. Refused
-   with 1 to 7 and 15 because of the file, then with 10 if `table` is shorter than that. The counts
-   are judged in file order (4 limits the records), and after them all records for 6, then all for
-   15, then all for 7. */
+   with 1 to 7, 15 and 17 because of the file, then with 10 if `table` is shorter than that. The
+   counts are judged in file order (4 limits the records), and after them all records for 6, then
+   all for 15, then all for 7, and then the needs for 17. */
 uint32_t share_sheet_read(const uint8_t *file, size_t file_len, uint16_t *table, size_t table_len,
                           size_t *buses, size_t *lines);
 

@@ -6,11 +6,14 @@
 #include "share_sheet.h"
 
 /* Path, and its table with a wrong last entry, which holds no network; two parallel circuits
-   between buses 0 and 1; and a second record that names its higher bus first */
+   between buses 0 and 1; a second record that names its higher bus first; and need 3 at bus 1, which
+   has two neighbours, in a file and in a table */
 static const uint8_t file[15] = {3, 0, 1, 1, 1, 2, 0, 0, 0, 1, 0, 1, 0, 2, 0};
 static const uint16_t none[12] = {3, 1, 1, 1, 0, 1, 3, 4, 1, 0, 2, 0};
 static const uint8_t parallel[15] = {3, 0, 1, 1, 1, 2, 0, 0, 0, 1, 0, 0, 0, 1, 0};
 static const uint8_t turned[15] = {3, 0, 1, 1, 1, 2, 0, 0, 0, 1, 0, 1, 0, 0, 0};
+static const uint8_t needing[15] = {3, 0, 1, 3, 1, 2, 0, 0, 0, 1, 0, 1, 0, 2, 0};
+static const uint16_t unmet[12] = {3, 1, 3, 1, 0, 1, 3, 4, 1, 0, 2, 1};
 
 static int wrong = 0;
 
@@ -56,6 +59,9 @@ int main(void)
     EXPECT(share_sheet_write(none, 12, text, 0, &a), 11);
     EXPECT((uint32_t)share_sheet_max_file(), (uint32_t)share_sheet_max_bytes());
     EXPECT(share_sheet_read(turned, 15, table, 12, &a, &b), 15);
+    EXPECT(share_sheet_read(needing, 15, table, 12, &a, &b), 17);
+    EXPECT(share_sheet_read(needing, 15, table, 0, &a, &b), 17);
+    EXPECT(share_sheet_shares(unmet, 12, numerators, 3, &p), 11);
     EXPECT(share_sheet_read(parallel, 15, table, 9, &a, &b), 10);
     EXPECT(share_sheet_read(parallel, 15, table, 10, &a, &b), 0);
     EXPECT((uint32_t)a, 3);

@@ -8,6 +8,7 @@ use lib.Dec.{ltb, eqb}
 use lib.ListN.{length}
 use Rattle.lists.specs.Below.{anyBelow, countBelow, listBelow}
 use Rattle.table_spec.specs.Limits.{maxDegree}
+use Rattle.table_spec.specs.Holds.{needsCanBeMet}
 use Rattle.file_spec.specs.FileBytes.{fileLineCount, records, firstEnd, secondEnd}
 
 -- record k joins i and j, either way round
@@ -25,6 +26,10 @@ neighbours n m r i = listBelow n (joined m r i)
 -- some bus below n has more different neighbours than it may have lines
 unfoldable pub degreeTooHigh : ℕ → ℕ → List ℕ → Bool
 degreeTooHigh n m r = anyBelow n (λ b. ltb maxDegree (length (neighbours n m r b)))
+
+-- some bus below n has a need of q that exceeds its degree, and is not one without lines that has need 1
+abbrev pub needAboveDegree : ℕ → List ℕ → ℕ → List ℕ → Bool
+needAboveDegree n q m r = not (needsCanBeMet n q (λ b. length (neighbours n m r b)))
 
 -- record k names the same pair as an earlier one
 unfoldable pub repeats : List ℕ → ℕ → Bool

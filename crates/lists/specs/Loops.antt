@@ -114,6 +114,11 @@ module _ (p : ℕ → Bool) where
   pub allBelow-done : (n i : ℕ) → allBelow i p ≡ true → i ≤ n → n ≤ i → allBelow n p ≡ true
   allBelow-done n i = by-end (λ m. allBelow m p ≡ true)
 
+pub allBelow-same : (p q : ℕ → Bool) (n : ℕ) → ((i : ℕ) → i < n → p i ≡ q i) → allBelow n p ≡ allBelow n q
+unfolding allBelow
+allBelow-same p q zero h = refl
+allBelow-same p q (suc n) h = ap₂ _&&_ (allBelow-same p q n (λ i l. h i (omega arith))) (h n (omega arith))
+
 -- ---- some number passes
 
 module _ (p : ℕ → Bool) where

@@ -1,7 +1,7 @@
 // Networks: their limits, and what a line table has where. A network is a line table in a lent slice.
 ghost use mathlib.Core.Path.{_≡_};
 ghost use Rattle.table_spec.specs.Limits.{maxBuses, maxDegree, maxNeed, maxLines, maxEntries, maxBytes};
-ghost use Rattle.table_spec.specs.Holds.{within};
+ghost use Rattle.table_spec.specs.Holds.{within, canBeMet};
 
 pub mod rows;
 pub mod table;
@@ -16,6 +16,16 @@ pub fn within(a: usize, b: usize, x: usize) -> bool
         return false;
     }
     x <= b
+}
+
+// Whether a need can be met at a bus of this degree: it does not exceed the degree; a bus without lines may have need 1.
+pub fn can_be_met(need: usize, degree: usize) -> bool
+    ensures { λ r. ⌜ r ≡ canBeMet need degree ⌝ }
+{
+    if need <= degree {
+        return true;
+    }
+    degree == 0 && need == 1
 }
 
 // The counts of a network: n and m.

@@ -19,13 +19,13 @@ use Rattle.one_way.specs.OneWay.{holdsOneWay, oneWay}
 feeder : ℕ → List ℕ
 feeder k = 3 ∷ 1 ∷ 1 ∷ k ∷ 0 ∷ 0 ∷ 1 ∷ 3 ∷ 0 ∷ 0 ∷ 1 ∷ []
 
--- L 6; bus 0 has its own 1, 1/2 for bus 1 and 1/3 for bus 2
+-- L 6; bus 0 has its own 1, 1/2 for bus 1 and 1/3 for bus 2; need 0 and need 3 at bus 2 make no network
 feeder-shares :
     (sharesOutcome (oneWay (feeder 1)) 4 ≡ gives 6)
     × (numeratorsAfter (oneWay (feeder 1)) (9 ∷ 9 ∷ 9 ∷ 9 ∷ []) ≡ 11 ∷ 5 ∷ 2 ∷ 9 ∷ [])
     × (numeratorsAfter (oneWay (feeder 2)) (9 ∷ 9 ∷ 9 ∷ []) ≡ 10 ∷ 4 ∷ 4 ∷ [])
     × (map (shareOutcome (oneWay (feeder 1))) (0 ∷ 3 ∷ []) ≡ gives (11, 6) ∷ refuses 13 ∷ [])
-    × (sharesOutcome (oneWay (feeder 0)) 4 ≡ refuses 11)
+    × (map (λ k. sharesOutcome (oneWay (feeder k)) 4) (0 ∷ 3 ∷ []) ≡ refuses 11 ∷ refuses 11 ∷ [])
 unfolding feeder holdsOneWay storedNumerators numeratorOver ownTerm neighbourTerm divisorsOf largestDegree largestBelow lcmAll lcmOf gcdOf mapBelow joinBelow listBelow complete within needsInRange soundRows neverFall shortRows validRows validRow validEntry rowAt needs starts neighbourNumbers row at allBelow
 feeder-shares = (refl, refl, refl, refl, refl)
 

@@ -7,8 +7,8 @@ use native.Mathlib.Omega.{arith}
 use lib.ListN.{length}
 use Rattle.lists.specs.Tests.{and-left, and-right}
 use Rattle.refusals.specs.Outcomes.{Outcome}
-use Rattle.table_spec.specs.Layout.{busCount, needs, startsAt}
-use Rattle.table_spec.specs.Holds.{complete, needsInRange, Scorable, Holds}
+use Rattle.table_spec.specs.Layout.{busCount, needs, starts, neighbourNumbers, startsAt}
+use Rattle.table_spec.specs.Holds.{complete, needsInRange, soundRows, Scorable, Holds}
 use Rattle.table_spec.specs.Rows.{length-needs, room}
 use Rattle.table_spec.specs.Facts.{complete-facts, needs-facts, rows-facts}
 use Rattle.share_spec.specs.Network.{Sound}
@@ -24,7 +24,11 @@ use Rattle.one_way.specs.OneWay.{holdsOneWay, oneWay}
 scorable : (t : List ℕ) → holdsOneWay t ≡ true → Scorable t
 unfolding holdsOneWay
 scorable t w =
-    let w1 = and-left (complete (startsAt t) t && needsInRange (needs t)) _ w in
+    let n = busCount t in
+    let s = starts (startsAt t) t in
+    let l = neighbourNumbers (startsAt t) t in
+    let w2 = and-left (complete (startsAt t) t && needsInRange (needs t) && soundRows n s l) _ w in
+    let w1 = and-left (complete (startsAt t) t && needsInRange (needs t)) _ w2 in
     let c = complete-facts (startsAt t) t (and-left (complete (startsAt t) t) _ w1) in
     let f = needs-facts (needs t) (and-right (complete (startsAt t) t) _ w1) in
     let g = room (startsAt t) t c in
@@ -32,7 +36,7 @@ scorable t w =
     record {
       complete = c;
       needed = λ i b. f i (omega arith) .0;
-      rows = rows-facts _ _ _ (g .0) (g .1) (and-right (complete (startsAt t) t && needsInRange (needs t)) _ w);
+      rows = rows-facts n s l (g .0) (g .1) (and-right (complete (startsAt t) t && needsInRange (needs t)) _ w2);
     }
 
 pub held-sound : (t : List ℕ) → holdsOneWay t ≡ true → Sound (oneWay t)

@@ -1,6 +1,7 @@
 // Compares the shares of networks up to seven buses with an average over all orders of fitting that is written separately:
 // `small_networks::average` goes through the orders and counts seen buses, and knows nothing of the scorer. So that the
-// comparison is seen to fail where it should, it is also made of shares by a formula that is wrong.
+// comparison is seen to fail where it should, it is also made of shares by a formula that is wrong. And each network is seen
+// to be refused once a need of it cannot be met.
 ghost use Prim.Native.Nat.{_≤_, _<_};
 ghost use Rattle.small_networks.specs.SizeBounds.{most};
 ghost use Rattle.order_average.specs.CountBounds.{counted};
@@ -21,8 +22,8 @@ use small_networks::table::table;
 use std::num::wrapping_add_u64;
 
 // What is counted. Networks; orders gone through, and those whose gains do not add up to all buses; buses whose need is above
-// their degree, equal to it, 1 and below it, or between 1 and it; shares that are not the average, and shares by a wrong
-// formula that are not.
+// their degree, as it is without lines, equal to it, 1 and below it, or between 1 and it; shares that are not the average, and
+// shares by a wrong formula that are not; networks with a need that cannot be met, and those of them that are not refused.
 const NETWORKS: usize = 0;
 
 const ORDERS: usize = 1;
@@ -41,7 +42,11 @@ const DIFFERENT: usize = 7;
 
 const WRONG: usize = 8;
 
-const COUNTED: usize = 9;
+const UNMET: usize = 9;
+
+const NOT_REFUSED: usize = 10;
+
+const COUNTED: usize = 11;
 
 // Adds to a count. None comes near the numbers where a sum would wrap.
 fn count(counts: &mut [u64; COUNTED], what: usize, more: u32)
@@ -152,6 +157,29 @@ fn compare_shares(counts: &mut [u64; COUNTED], small: Small, gains: Gains)
     }
 }
 
+// Whether Shares finds no network in the table, number 11.
+fn is_refused(small: Small) -> bool
+    requires { ⌜ small .buses ≤ most ⌝ }
+{
+    let mut numerators = [0u64; MOST];
+    match scorer::shares(&table(small), &mut numerators) {
+        AllShares::Over(_) => false,
+        AllShares::Refused(cause) => cause.number() == 11,
+    }
+}
+
+// Raises the need of each bus in turn until it cannot be met.
+fn raise_needs(counts: &mut [u64; COUNTED], small: Small)
+    requires { ⌜ small .buses ≤ most ⌝ }
+{
+    for bus in 0..small.buses {
+        count(counts, UNMET, 1);
+        if !is_refused(choice::raised(small, bus)) {
+            count(counts, NOT_REFUSED, 1);
+        }
+    }
+}
+
 fn compare(counts: &mut [u64; COUNTED], small: Small)
     requires { ⌜ small .buses ≤ most ⌝ }
 {
@@ -160,6 +188,7 @@ fn compare(counts: &mut [u64; COUNTED], small: Small)
     count(counts, ORDERS, gains.orders);
     count(counts, UNEVEN, gains.uneven);
     compare_shares(counts, small, gains);
+    raise_needs(counts, small);
 }
 
 // The most buses of which all networks are compared.
@@ -205,6 +234,11 @@ fn say_counts(counts: &[u64; COUNTED]) {
         b"\nshares by the wrong formula that are not ",
         counts[WRONG],
     );
+    say(
+        b"\nnetworks with a need raised until it cannot be met ",
+        counts[UNMET],
+    );
+    say(b"\nof these not refused ", counts[NOT_REFUSED]);
 }
 
 fn main() {

@@ -16,7 +16,7 @@ use Rattle.file_spec.specs.FileBytes.{fileBusCount, needBytes, fileLineCount, r
 use Rattle.file_spec.specs.Sections.{sectionCauses, counts, sectionsOutcome, soundEnds}
 use Rattle.file_spec.specs.SoundSections.{SoundSections, sections-passed, sections-test, length-needBytes}
 use Rattle.file_spec.specs.RecordOrder.{outOfOrder}
-use Rattle.file_spec.specs.Records.{degreeTooHigh, pairCount}
+use Rattle.file_spec.specs.Records.{degreeTooHigh, needAboveDegree, pairCount}
 use Rattle.read_spec.specs.ReadStages.{RecordsDue}
 use Rattle.read_spec.specs.ReadOutcome.{recordCauses, readCauses, networkCounts, readOutcome, fileTable, storedTable, tableAfter}
 
@@ -39,7 +39,7 @@ module _ (f : List ℕ) {c : Counts} (e : sectionsOutcome f ≡ gives c) where
       let n = fileBusCount f in
       let d = rw (eq, em, er, length-needBytes sound) at d in
       stage-pass (sectionCauses f) (counts f) (sym e)
-      (subst (λ s. Due (recordCauses n (fileLineCount f) (records f) (length t)) (networkCounts f) s t o t′) (put-front t (fileTable f)) d)
+      (subst (λ s. Due (recordCauses n (needBytes f) (fileLineCount f) (records f) (length t)) (networkCounts f) s t o t′) (put-front t (fileTable f)) d)
 
 module _ (f t : List ℕ) where
   abbrev n : ℕ
@@ -57,13 +57,16 @@ module _ (f t : List ℕ) where
     none = no-cause (readCauses f (length t)) (networkCounts f) e .0
 
     pub whole : SoundSections f
-    whole = sections-passed f (none-both (sectionCauses f) (recordCauses n m r (length t)) none .0)
+    whole = sections-passed f (none-both (sectionCauses f) (recordCauses n (needBytes f) m r (length t)) none .0)
 
     pub sound-ends : soundEnds n m r ≡ true
     sound-ends = not-false _ (or-none _ _ (none-numbered 6 (readCauses f (length t)) none) .0)
 
     pub none-too-high : degreeTooHigh n m r ≡ false
     none-too-high = or-none _ _ (none-numbered 7 (readCauses f (length t)) none) .0
+
+    pub none-above : needAboveDegree n (needBytes f) m r ≡ false
+    none-above = or-none _ _ (none-numbered 17 (readCauses f (length t)) none) .0
 
     pub in-order : outOfOrder m r ≡ false
     in-order = or-none _ _ (none-numbered 15 (readCauses f (length t)) none) .0
@@ -75,8 +78,8 @@ module _ (f t : List ℕ) where
     table-stored = rw (none-gives (readCauses f (length t)) (storedTable f t) none)
 
   -- and one that passes every test is accepted, where there is room for its table
-  pub read-accepts : SoundSections f → soundEnds n m r ≡ true → outOfOrder m r ≡ false → degreeTooHigh n m r ≡ false → tableEntries n (pairCount m r) ≤ length t
-      → readOutcome f (length t) ≡ gives (networkCounts f)
-  read-accepts s ends order degrees room =
-      then-decides (recordCauses n m r (length t)) (counts f) (networkCounts f) (sectionCauses f) (sections-test s)
-      ∙ simp (ends, order, degrees, le-ltb (length t) (tableEntries n (pairCount m r)) room)
+  pub read-accepts : SoundSections f → soundEnds n m r ≡ true → outOfOrder m r ≡ false → degreeTooHigh n m r ≡ false → needAboveDegree n (needBytes f) m r ≡ false
+      → tableEntries n (pairCount m r) ≤ length t → readOutcome f (length t) ≡ gives (networkCounts f)
+  read-accepts s ends order degrees needs room =
+      then-decides (recordCauses n (needBytes f) m r (length t)) (counts f) (networkCounts f) (sectionCauses f) (sections-test s)
+      ∙ simp (ends, order, degrees, needs, le-ltb (length t) (tableEntries n (pairCount m r)) room)

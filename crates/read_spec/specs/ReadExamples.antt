@@ -49,8 +49,8 @@ repeat-table : tableAfter (three 0 1 0 1) (replicate 11 7) ≡ 3 ∷ 1 ∷ 1 ∷
 unfolding needBytes records wordAt at endsBefore goesOn within needsInRange allBelow anyBelow sumBelow soundEnds twoBuses outOfOrder turned falls pairBelow degreeTooHigh pairCount repeats neighbours listBelow joinBelow joined joins three file storedTable fileTable tableOf laid mapBelow
 repeat-table = refl
 
--- one bus, no line, need 24
-alone-table : tableAfter (file 1 (24 ∷ []) 0 []) (replicate 5 7) ≡ 1 ∷ 24 ∷ 0 ∷ 0 ∷ 7 ∷ []
+-- one bus, no line, need 1
+alone-table : tableAfter (file 1 (1 ∷ []) 0 []) (replicate 5 7) ≡ 1 ∷ 1 ∷ 0 ∷ 0 ∷ 7 ∷ []
 unfolding needBytes records wordAt at endsBefore goesOn within needsInRange allBelow anyBelow sumBelow soundEnds twoBuses outOfOrder turned falls pairBelow degreeTooHigh pairCount repeats neighbours listBelow joinBelow joined joins file storedTable fileTable tableOf laid mapBelow
 alone-table = refl
 
@@ -108,3 +108,29 @@ spokesAnd b = file 25 (replicate 25 1) 25 (joinBelow 24 (λ k. 0 ∷ 0 ∷ suc k
 late-fall : map (λ f. readOutcome f 0) (spokesAnd 25 ∷ spokesAnd 1 ∷ star 24 ∷ []) ≡ map refuses (6 ∷ 15 ∷ 7 ∷ [])
 unfolding needBytes records wordAt at endsBefore goesOn within needsInRange allBelow anyBelow sumBelow soundEnds twoBuses outOfOrder turned falls pairBelow degreeTooHigh pairCount repeats neighbours listBelow joinBelow joined joins star file spokesAnd
 late-fall = refl
+
+-- Path with need k at bus 1, and its records in another order; one bus without lines and with need k
+needing : ℕ → List ℕ
+needing k = file 3 (1 ∷ k ∷ 1 ∷ []) 2 (0 ∷ 0 ∷ 1 ∷ 0 ∷ 1 ∷ 0 ∷ 2 ∷ 0 ∷ [])
+
+needingMisplaced : ℕ → List ℕ
+needingMisplaced k = file 3 (1 ∷ k ∷ 1 ∷ []) 2 (1 ∷ 0 ∷ 2 ∷ 0 ∷ 0 ∷ 0 ∷ 1 ∷ 0 ∷ [])
+
+alone : ℕ → List ℕ
+alone k = file 1 (k ∷ []) 0 []
+
+-- 24 records that join a bus to 24 others, of which the last has need k
+spokesNeeding : ℕ → List ℕ
+spokesNeeding k = file 25 (replicate 24 1 ++ (k ∷ [])) 24 (joinBelow 24 (λ k. 0 ∷ 0 ∷ suc k ∷ 0 ∷ []))
+
+-- a need that equals the degree, and one above it; needs 1, 2 and 24 without lines
+met :
+    map (λ f. readOutcome f 100) (needing 2 ∷ needing 3 ∷ alone 1 ∷ alone 2 ∷ alone 24 ∷ [])
+    ≡ gives (record { buses = 3; lines = 2 }) ∷ refuses 17 ∷ gives (record { buses = 1; lines = 0 }) ∷ refuses 17 ∷ refuses 17 ∷ []
+unfolding needBytes records wordAt at endsBefore goesOn within needsInRange allBelow anyBelow sumBelow soundEnds twoBuses outOfOrder turned falls pairBelow degreeTooHigh pairCount repeats neighbours listBelow joinBelow joined joins file needing alone
+met = refl
+
+-- a need that cannot be met, behind records out of order, behind a bus with 24 neighbours, and with no entry lent
+late-need : map (λ f. readOutcome f 0) (needingMisplaced 3 ∷ spokesNeeding 2 ∷ needing 3 ∷ []) ≡ map refuses (15 ∷ 7 ∷ 17 ∷ [])
+unfolding needBytes records wordAt at endsBefore goesOn within needsInRange allBelow anyBelow sumBelow soundEnds twoBuses outOfOrder turned falls pairBelow degreeTooHigh pairCount repeats neighbours listBelow joinBelow joined joins file needing needingMisplaced spokesNeeding
+late-need = refl

@@ -7,7 +7,7 @@ use Prim.Native.Nat.{ℕ, _<_}
 use lib.Dec.{ltb}
 use lib.ListN.{length, drop}
 use Rattle.lists.specs.Lists.{has}
-use Rattle.refusals.specs.declared.Refusal.the-variants.{LineEnds, DegreeTooHigh, TableTooShort, OutOfOrder}
+use Rattle.refusals.specs.declared.Refusal.the-variants.{LineEnds, DegreeTooHigh, TableTooShort, OutOfOrder, NeedAboveDegree}
 use Rattle.refusals.specs.Outcomes.{Outcome, gives, refuses, Cause, _⇒_, outcome, valuesOr}
 use Rattle.table_spec.specs.Layout.{busCount, needs, row, lines, tableEntries, tableOf}
 use Rattle.table_spec.specs.Holds.{Holds}
@@ -15,7 +15,7 @@ use Rattle.network.specs.declared.Counts.{Counts}
 use Rattle.file_spec.specs.FileBytes.{fileBusCount, needBytes, fileLineCount, records}
 use Rattle.file_spec.specs.Sections.{sectionCauses, soundEnds}
 use Rattle.file_spec.specs.RecordOrder.{outOfOrder}
-use Rattle.file_spec.specs.Records.{joined, neighbours, degreeTooHigh, pairCount, filePairCount}
+use Rattle.file_spec.specs.Records.{joined, neighbours, degreeTooHigh, needAboveDegree, pairCount, filePairCount}
 
 -- a record names a bus of n or above, or one bus twice
 abbrev pub endsCauses : ℕ → ℕ → List ℕ → List Cause
@@ -29,17 +29,21 @@ orderCauses m r = (outOfOrder m r ⇒ OutOfOrder) ∷ []
 abbrev pub degreeCauses : ℕ → ℕ → List ℕ → List Cause
 degreeCauses n m r = (degreeTooHigh n m r ⇒ DegreeTooHigh) ∷ []
 
+-- a need of q cannot be met
+abbrev pub needCauses : ℕ → List ℕ → ℕ → List ℕ → List Cause
+needCauses n q m r = (needAboveDegree n q m r ⇒ NeedAboveDegree) ∷ []
+
 -- too few entries are lent for the table of n buses and m lines
 abbrev pub roomCauses : ℕ → ℕ → ℕ → List Cause
 roomCauses n m lent = (ltb lent (tableEntries n m) ⇒ TableTooShort) ∷ []
 
--- each over all records before the next; the table has a line for each different pair
-abbrev pub recordCauses : ℕ → ℕ → List ℕ → ℕ → List Cause
-recordCauses n m r lent = endsCauses n m r ++ orderCauses m r ++ degreeCauses n m r ++ roomCauses n (pairCount m r) lent
+-- each over all records before the next, and the needs behind 7; the table has a line for each different pair
+abbrev pub recordCauses : ℕ → List ℕ → ℕ → List ℕ → ℕ → List Cause
+recordCauses n q m r lent = endsCauses n m r ++ orderCauses m r ++ degreeCauses n m r ++ needCauses n q m r ++ roomCauses n (pairCount m r) lent
 
 -- Read checks in file order, then the records
 abbrev pub readCauses : List ℕ → ℕ → List Cause
-readCauses f lent = sectionCauses f ++ recordCauses (fileBusCount f) (fileLineCount f) (records f) lent
+readCauses f lent = sectionCauses f ++ recordCauses (fileBusCount f) (needBytes f) (fileLineCount f) (records f) lent
 
 -- n and m of the file's network: its buses, and its different pairs
 abbrev pub networkCounts : List ℕ → Counts

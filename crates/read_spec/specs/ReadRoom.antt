@@ -11,7 +11,7 @@ use Rattle.refusals.specs.Causes.{refused-numbered, first-refuses, then-decides
 use Rattle.table_spec.specs.Limits.{maxEntries}
 use Rattle.table_spec.specs.Layout.{tableEntries}
 use Rattle.network.specs.declared.Counts.{Counts}
-use Rattle.file_spec.specs.FileBytes.{fileBusCount, fileLineCount, records}
+use Rattle.file_spec.specs.FileBytes.{fileBusCount, needBytes, fileLineCount, records}
 use Rattle.file_spec.specs.Sections.{sectionCauses, counts, sectionsOutcome}
 use Rattle.file_spec.specs.SoundSections.{SoundSections}
 use Rattle.file_spec.specs.Records.{filePairCount}
@@ -21,7 +21,7 @@ use Rattle.read_spec.specs.ReadDecides.{sound}
 
 module _ (f : List ℕ) (lent : ℕ) where
   abbrev rest : List Cause
-  rest = recordCauses (fileBusCount f) (fileLineCount f) (records f) lent
+  rest = recordCauses (fileBusCount f) (needBytes f) (fileLineCount f) (records f) lent
 
   -- a file that is refused with 10 has sound sections, and its table would have more entries than are lent
   by-sections : (o : Outcome Counts) → sectionsOutcome f ≡ o → readOutcome f lent ≡ refuses 10

@@ -9,7 +9,7 @@ use Rattle.refusals.specs.Due.{Due}
 use Rattle.table_spec.specs.Layout.{tableOf}
 use Rattle.network.specs.declared.Counts.{Counts}
 use Rattle.file_spec.specs.Records.{neighbours, pairCount}
-use Rattle.read_spec.specs.ReadOutcome.{degreeCauses, roomCauses, recordCauses}
+use Rattle.read_spec.specs.ReadOutcome.{degreeCauses, needCauses, roomCauses, recordCauses}
 
 -- buses with the needs q, and m lines that give them these rows: what is answered, and what a slice that held t holds then, where these causes decide
 abbrev pub TableDue : List Cause → List ℕ → ℕ → (ℕ → List ℕ) → List ℕ → Outcome Counts → List ℕ → Type 0
@@ -18,8 +18,8 @@ TableDue cs q m rows t o t′ = Due cs (record { buses = length q; lines = m }) 
 -- m records r are sound and in order
 abbrev pub LinesDue : List ℕ → ℕ → List ℕ → List ℕ → Outcome Counts → List ℕ → Type 0
 LinesDue q m r t o t′ =
-    TableDue (degreeCauses (length q) m r ++ roomCauses (length q) (pairCount m r) (length t)) q (pairCount m r) (neighbours (length q) m r) t o t′
+    TableDue (degreeCauses (length q) m r ++ needCauses (length q) q m r ++ roomCauses (length q) (pairCount m r) (length t)) q (pairCount m r) (neighbours (length q) m r) t o t′
 
 -- any m records r
 abbrev pub RecordsDue : List ℕ → ℕ → List ℕ → List ℕ → Outcome Counts → List ℕ → Type 0
-RecordsDue q m r t o t′ = TableDue (recordCauses (length q) m r (length t)) q (pairCount m r) (neighbours (length q) m r) t o t′
+RecordsDue q m r t o t′ = TableDue (recordCauses (length q) q m r (length t)) q (pairCount m r) (neighbours (length q) m r) t o t′

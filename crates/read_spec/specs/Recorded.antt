@@ -4,9 +4,11 @@ use mathlib.Core.List.{List, _++_}
 use mathlib.Core.Path.{_≡_, sym, ap, ap₂, subst, _∙_}
 use Prim.Native.Nat.{ℕ, _*_}
 use native.Mathlib.Omega.{arith}
+use borrow.Author.Tests.{not-false}
 use lib.ListN.{length, drop}
 use Rattle.lists.specs.Lists.{has}
 use Rattle.lists.specs.Below.{joinBelow}
+use Rattle.lists.specs.Loops.{allBelow-at}
 use Rattle.refusals.specs.Outcomes.{Outcome, gives, refuses, valuesOr}
 use Rattle.refusals.specs.Causes.{part-answered}
 use Rattle.refusals.specs.Due.{both}
@@ -24,7 +26,7 @@ use Rattle.file_spec.specs.Records.{neighbours, pairCount, filePairCount}
 use Rattle.file_spec.specs.RecordPairs.{joined-sym, rows-length}
 use Rattle.file_spec.specs.RecordNeighbours.{neighbours-valid, neighbours-max-le, neighbours-joined}
 use Rattle.read_spec.specs.ReadOutcome.{readCauses, networkCounts, readOutcome, fileTable, storedTable, tableAfter, AsRecorded, Recorded}
-use Rattle.read_spec.specs.ReadDecides.{ReadDue, whole, sound-ends, none-too-high, counts-given, table-stored}
+use Rattle.read_spec.specs.ReadDecides.{ReadDue, whole, sound-ends, none-too-high, none-above, counts-given, table-stored}
 
 -- a refused Read changes nothing
 pub kept : (f t : List ℕ) {k : ℕ} → readOutcome f (length t) ≡ refuses k → tableAfter f t ≡ t
@@ -64,7 +66,7 @@ module _ (f t : List ℕ) {c : Counts} (e : readOutcome f (length t) ≡ gives c
   held =
       made-holds n q rows rest long (whole f t e .first .positive) (whole f t e .first .buses) (needs-facts q (whole f t e .first .needs))
       (λ i b. neighbours-valid n m r ends i) (neighbours-max-le n m r (none-too-high f t e))
-      (λ i j b c. neighbours-joined n m r ends i j ∙ joined-sym m r i j ∙ sym (neighbours-joined n m r ends j i))
+      (λ i j b c. neighbours-joined n m r ends i j ∙ joined-sym m r i j ∙ sym (neighbours-joined n m r ends j i)) (λ i b. allBelow-at _ n (not-false _ (none-above f t e)) b)
 
   numbers : length (joinBelow n rows) ≡ 2 * pairCount m r
   numbers = rows-length n m r (ends-facts n m r ends)

@@ -1,4 +1,5 @@
 -- What the stores of Read leave: a table, followed by the old rest.
+use mathlib.Core.Bool.{not}
 use mathlib.Core.List.{List, _∷_}
 use mathlib.Core.Path.{_≡_, ap, _∙_}
 use Prim.Native.Nat.{ℕ, _+_, _*_}
@@ -11,8 +12,10 @@ use Rattle.lists.specs.Loops.{anyBelow-same}
 use Rattle.lists.specs.Writes.{stored-list}
 use Rattle.table_spec.specs.Limits.{maxDegree}
 use Rattle.table_spec.specs.Layout.{laid, tableOf}
+use Rattle.table_spec.specs.Holds.{needsCanBeMet}
+use Rattle.table_spec.specs.Facts.{met-same}
 use Rattle.table_spec.specs.Laid.{length-laid}
-use Rattle.file_spec.specs.Records.{neighbours, degreeTooHigh, pairCount}
+use Rattle.file_spec.specs.Records.{neighbours, degreeTooHigh, needAboveDegree, pairCount}
 use Rattle.file_spec.specs.RecordPairs.{rows-length}
 use Rattle.file_spec.specs.OrderedRecords.{OrderedRecords}
 use Rattle.file_records.specs.RecordSteps.{NeighbourCounts}
@@ -25,6 +28,11 @@ laid-length {n} {m} {r} g = omega (arith, length-laid (neighbours n m r) n, rows
 pub too-high-counted : {n m : ℕ} {r counts : List ℕ} → NeighbourCounts n m r counts → anyBelow n (λ i. ltb maxDegree (at counts i)) ≡ degreeTooHigh n m r
 unfolding degreeTooHigh
 too-high-counted {n} w = anyBelow-same _ _ n (λ i l. ap (ltb maxDegree) (w .each i l))
+
+-- and a need cannot be met exactly if it cannot by these counts
+pub above-counted : (q : List ℕ) {m : ℕ} {r counts : List ℕ} → NeighbourCounts (length q) m r counts
+    → not (needsCanBeMet (length q) q (at counts)) ≡ needAboveDegree (length q) q m r
+above-counted q w = ap not (met-same (length q) q (w .each))
 
 -- the bus count and the needs q were written into a slice that held t, and then the rows
 pub built : (t q : List ℕ) (rows : ℕ → List ℕ) {t₁ t₂ : List ℕ} → t₁ ≡ put t 0 (length q ∷ q) → t₂ ≡ put t₁ (1 + length q) (laid (length q) rows)

@@ -21,6 +21,7 @@ use file_sections::sound_ends;
 pub use network::Refusal;
 use network::table::entries;
 use row_builder::degree_too_high;
+use row_builder::needs_can_be_met;
 use row_builder::zero_counts;
 
 // Writes the bus count and the needs.
@@ -46,6 +47,9 @@ fn read_lines(needs: &[u8], section: &[u8], m: usize, table: &mut [u16]) -> Read
     let lines = count_neighbours(section, n, m, &mut counts);
     if degree_too_high(&counts, n) {
         return Reading::Refused(Refusal::DegreeTooHigh);
+    }
+    if !needs_can_be_met(needs, &counts) {
+        return Reading::Refused(Refusal::NeedAboveDegree);
     }
     if table.len() < entries(n, lines) {
         return Reading::Refused(Refusal::TableTooShort);

@@ -33,6 +33,8 @@ pub enum Refusal {
     OutOfOrder,
     // Too few bytes are lent for the network file.
     BytesTooShort,
+    // A need exceeds its bus's degree, apart from need 1 at a bus without lines.
+    NeedAboveDegree,
 }
 
 // How many bytes a call wrote at the front of those lent, or why none.
@@ -62,6 +64,7 @@ impl Refusal {
             Refusal::TextTooShort => 14,
             Refusal::OutOfOrder => 15,
             Refusal::BytesTooShort => 16,
+            Refusal::NeedAboveDegree => 17,
         }
     }
 }

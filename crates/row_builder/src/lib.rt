@@ -6,8 +6,11 @@ ghost use lib.ListN.{length, set};
 ghost use Rattle.lists.specs.Lists.{at, put};
 ghost use Rattle.lists.specs.Below.{anyBelow, sumBelow, mapBelow};
 ghost use Rattle.table_spec.specs.Limits.{maxBuses, maxDegree};
+ghost use Rattle.table_spec.specs.Holds.{needsCanBeMet};
 ghost use Rattle.row_builder.specs.GrowingRows.{AllZero, RowStarts};
 use network::Network;
+use network::can_be_met;
+use network::rows::entry;
 
 // A count of 0 for each bus.
 pub fn zero_counts() -> [u16; Network::BUSES]
@@ -37,6 +40,21 @@ pub fn degree_too_high(counts: &[u16; Network::BUSES], n: usize) -> bool
         bus += 1;
     }
     false
+}
+
+// Whether each bus can meet its need, having so many neighbours.
+pub fn needs_can_be_met(needs: &[u8], counts: &[u16]) -> bool
+    requires { ⌜ length (now needs) ≤ length (now counts) ⌝ }
+    ensures { λ b. ⌜ b ≡ needsCanBeMet (length (now (needs .entry))) (now (needs .entry)) (at (now (counts .entry))) ⌝ }
+{
+    let mut bus = 0;
+    while bus < needs.len() {
+        if !can_be_met(needs[bus] as usize, entry(counts, bus)) {
+            return false;
+        }
+        bus += 1;
+    }
+    true
 }
 
 // Writes the row starts of n buses, which have so many neighbours, into the table from place `from` on. Each count becomes the start of its row.

@@ -41,11 +41,14 @@ unfolding path case
 cases =
     case (path 1) (9 ∷ 9 ∷ 9 ∷ []) (gives 6) (5 ∷ 8 ∷ 5 ∷ [])
     ∷ case (path 2) (9 ∷ 9 ∷ 9 ∷ 9 ∷ 7 ∷ []) (gives 6) (4 ∷ 10 ∷ 4 ∷ 9 ∷ 7 ∷ [])
-    ∷ case (1 ∷ 24 ∷ 0 ∷ 0 ∷ 5 ∷ []) (9 ∷ 9 ∷ []) (gives 1) (1 ∷ 9 ∷ [])
+    ∷ case (1 ∷ 1 ∷ 0 ∷ 0 ∷ 5 ∷ []) (9 ∷ 9 ∷ []) (gives 1) (1 ∷ 9 ∷ [])
     -- an entry too few; no network, whatever is lent
     ∷ case (path 1) (9 ∷ 9 ∷ []) (refuses 12) (9 ∷ 9 ∷ [])
     ∷ case [] [] (refuses 11) []
     ∷ case (path 0) (9 ∷ 9 ∷ 9 ∷ []) (refuses 11) (9 ∷ 9 ∷ 9 ∷ [])
+    -- a need that cannot be met, with lines and without
+    ∷ case (path 3) (9 ∷ 9 ∷ 9 ∷ []) (refuses 11) (9 ∷ 9 ∷ 9 ∷ [])
+    ∷ case (1 ∷ 2 ∷ 0 ∷ 0 ∷ []) (9 ∷ 9 ∷ []) (refuses 11) (9 ∷ 9 ∷ [])
     -- both: 11, which is tested first
     ∷ case (path 0) (9 ∷ 9 ∷ []) (refuses 11) (9 ∷ 9 ∷ [])
     ∷ []
@@ -55,7 +58,7 @@ unfolding cases storedNumerators numeratorOver ownTerm neighbourTerm divisorsOf 
 all-shares = refl
 
 one-share :
-    (map (shareOutcome (networkOf (path 3))) (0 ∷ 1 ∷ 2 ∷ 3 ∷ []) ≡ gives (3, 6) ∷ gives (12, 6) ∷ gives (3, 6) ∷ refuses 13 ∷ [])
-    × (map (shareOutcome (networkOf (path 0))) (0 ∷ 3 ∷ []) ≡ refuses 11 ∷ refuses 11 ∷ [])
+    (map (shareOutcome (networkOf (path 2))) (0 ∷ 1 ∷ 2 ∷ 3 ∷ []) ≡ gives (4, 6) ∷ gives (10, 6) ∷ gives (4, 6) ∷ refuses 13 ∷ [])
+    × (map (λ k. shareOutcome (networkOf (path k)) 3) (0 ∷ 3 ∷ []) ≡ refuses 11 ∷ refuses 11 ∷ [])
 unfolding path numeratorOver ownTerm neighbourTerm divisorsOf largestDegree largestBelow lcmAll lcmOf gcdOf mapBelow joinBelow holds twoWay complete within needsInRange soundRows neverFall shortRows validRows validRow validEntry mirrored rowAt needs starts neighbourNumbers row at allBelow
 one-share = (refl, refl)

@@ -27,7 +27,7 @@ path-lines :
 unfolding path filled decimal numeratorOver ownTerm neighbourTerm divisorsOf largestDegree largestBelow lcmAll lcmOf gcdOf mapBelow joinBelow lines sumBelow rowAt needs starts neighbourNumbers row at
 path-lines = refl
 
--- with need 3 at bus 1 its line is `1 3 2 12 2/1`
+-- with need 3 at bus 1, which no call accepts, its line would be `1 3 2 12 2/1`
 path-three : sheetLine (networkOf (path 3)) 2 ≡ 49 ∷ 32 ∷ 51 ∷ 32 ∷ 50 ∷ 32 ∷ 49 ∷ 50 ∷ 32 ∷ 50 ∷ 47 ∷ 49 ∷ 10 ∷ []
 unfolding path filled decimal numeratorOver ownTerm neighbourTerm divisorsOf largestDegree largestBelow lcmAll lcmOf gcdOf mapBelow joinBelow lines sumBelow rowAt needs starts neighbourNumbers row at
 path-three = refl

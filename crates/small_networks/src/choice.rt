@@ -65,22 +65,40 @@ pub fn draws(seed: u64) -> [u64; DRAWS] {
     draws
 }
 
-// Lines to buses of lower numbers: about three quarters of all, since each is there if one of two digits is 1.
+// Digits of which about a quarter, half or three quarters are 1, as the kind says: both of two drawn, one, or either of two.
+fn digits(kind: u64, drawn: u64) -> u64 {
+    match kind % 3 {
+        0 => drawn & drawn >> MOST,
+        1 => drawn,
+        _ => drawn | drawn >> MOST,
+    }
+}
+
+// Lines to buses of lower numbers: few, so that many buses have none, about half of all, or most.
 fn lower(draws: &[u64; DRAWS]) -> [u32; MOST] {
     let mut lower = [0u32; MOST];
     for bus in 1..MOST {
-        let drawn = draws[MOST + bus];
-        lower[bus] = ((drawn | drawn >> MOST) % SETS) as u32;
+        lower[bus] = (digits(draws[MOST], draws[MOST + bus]) % SETS) as u32;
     }
     lower
 }
 
-// Needs from 1 to one above the bus's degree.
+// The highest need that can be met at a bus with these neighbours: as many as they are, but 1 where there are none.
+fn highest(neighbours: u32) -> u32
+    ensures { λ r. ⌜ (1 ≤ r) × (r ≤ 32) ⌝ }
+{
+    let degree = size(neighbours);
+    if degree == 0 {
+        return 1;
+    }
+    degree
+}
+
+// Needs from 1 to the highest that can be met.
 fn needs(draws: &[u64; DRAWS], neighbours: &[u32; MOST]) -> [u8; MOST] {
     let mut needs = [0u8; MOST];
     for bus in 0..MOST {
-        let degree = size(neighbours[bus]) as u64;
-        needs[bus] = (1 + draws[bus] % (degree + 1)) as u8;
+        needs[bus] = (1 + draws[bus] % highest(neighbours[bus]) as u64) as u8;
     }
     needs
 }
@@ -94,6 +112,21 @@ pub fn chosen(buses: usize, draws: &[u64; DRAWS]) -> Small
     let needs = needs(draws, &neighbours);
     Small {
         buses,
+        needs,
+        neighbours,
+    }
+}
+
+// The same network with a need that cannot be met: at one bus, one above the highest that can.
+pub fn raised(small: Small, bus: usize) -> Small
+    requires { ⌜ bus < most ⌝ }
+    ensures { λ r. ⌜ r .buses ≡ small .buses ⌝ }
+{
+    let neighbours = small.neighbours;
+    let mut needs = small.needs;
+    needs[bus] = (highest(neighbours[bus]) + 1) as u8;
+    Small {
+        buses: small.buses,
         needs,
         neighbours,
     }

@@ -74,8 +74,8 @@ unfoldable pub starred : List Case
 starred =
     -- one bus without lines
     (scored (file (1 ∷ []) []) is (1 ∷ []) over 1)
-    -- the same with the highest need
-    ∷ (scored (file (24 ∷ []) []) is (1 ∷ []) over 1)
+    -- the same with need 24, which cannot be met
+    ∷ (scored (file (24 ∷ []) []) is refuses 17)
     -- two joined buses
     ∷ (scored (file (1 ∷ 1 ∷ []) ((0, 1) ∷ [])) is (2 ∷ 2 ∷ []) over 2)
     -- Path
@@ -83,7 +83,7 @@ starred =
     -- Path whose middle bus needs both neighbours
     ∷ (scored (path 2) is (4 ∷ 10 ∷ 4 ∷ []) over 6)
     -- Path whose middle bus needs more than it has
-    ∷ (scored (path 3) is (3 ∷ 12 ∷ 3 ∷ []) over 6)
+    ∷ (scored (path 3) is refuses 17)
     -- the triangle, needs 1 and needs 2
     ∷ (scored (triangle 1) is (6 ∷ 6 ∷ 6 ∷ []) over 6)
     ∷ (scored (triangle 2) is (6 ∷ 6 ∷ 6 ∷ []) over 6)

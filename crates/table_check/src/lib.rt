@@ -1,14 +1,16 @@
 // The test of a line table: whether a slice holds a network. Row starts begin at `from`.
 ghost use mathlib.Core.Path.{_≡_};
-ghost use Prim.Native.Nat.{_^_, _≤_, _<_};
+ghost use Prim.Native.Nat.{_+_, _-_, _^_, _≤_, _<_};
 ghost use lib.ListN.{length};
-ghost use Rattle.table_spec.specs.Holds.{complete, needsInRange, twoWay, holds, Complete};
+ghost use Rattle.lists.specs.Lists.{at};
+ghost use Rattle.table_spec.specs.Holds.{complete, needsInRange, twoWay, needsCanBeMet, holds, Complete, Steps};
 
 pub mod mirrors;
 pub mod rows;
 
 use mirrors::mirrored;
 use network::Network;
+use network::can_be_met;
 use network::rows::entry;
 use network::table::bus_count;
 use network::table::needs;
@@ -61,6 +63,22 @@ fn two_way(table: &[u16], from: usize) -> bool
     mirrored(starts, numbers, n)
 }
 
+// Whether each bus can meet its need. Its degree is how far its row start is from the next.
+fn needs_can_be_met(needs: &[u16], starts: &[u16]) -> bool
+    requires { ⌜ (length (now needs) < length (now starts)) × Steps (length (now needs)) (now starts) ⌝ }
+    ensures { λ b. ⌜ b ≡ needsCanBeMet (length (now (needs .entry))) (now (needs .entry)) (λ i. at (now (starts .entry)) (i + 1) - at (now (starts .entry)) i) ⌝ }
+{
+    let mut bus = 0;
+    while bus < needs.len() {
+        let degree = entry(starts, bus + 1) - entry(starts, bus);
+        if !can_be_met(entry(needs, bus), degree) {
+            return false;
+        }
+        bus += 1;
+    }
+    true
+}
+
 // Whether the slice holds a network.
 pub fn holds(table: &[u16]) -> bool
     ensures { λ b. ⌜ b ≡ holds (now (table .entry)) ⌝ }
@@ -72,8 +90,12 @@ pub fn holds(table: &[u16]) -> bool
     if !complete(table, from) {
         return false;
     }
-    if !needs_in_range(needs(table)) {
+    let needs = needs(table);
+    if !needs_in_range(needs) {
         return false;
     }
-    two_way(table, from)
+    if !two_way(table, from) {
+        return false;
+    }
+    needs_can_be_met(needs, starts(table, from))
 }

@@ -42,8 +42,8 @@ module _ (t x : List ℕ) (w : entries (startsAt t) t ≤ length t) where
   needs-on = sym (needs-read (t ++ x) (sym (busCount-on (startsAt t) t x w))) ∙ part-append 1 (1 + busCount t) t x (omega arith) ∙ needs-read t refl
 
   holds-on : holds (t ++ x) ≡ holds t
-  unfolding holds
-  holds-on = rw (busCount-on (startsAt t) t x w, complete-on (startsAt t) t x w, needs-on, two-way-on (startsAt t) t x w)
+  unfolding holds row
+  holds-on = rw (busCount-on (startsAt t) t x w, complete-on (startsAt t) t x w, needs-on, two-way-on (startsAt t) t x w, starts-on (startsAt t) t x w, numbers-on (startsAt t) t x w)
 
   row-on : (i : ℕ) → row (t ++ x) i ≡ row t i
   unfolding row

@@ -9,7 +9,7 @@ use Rattle.lists.specs.Lists.{at}
 use Rattle.lists.specs.Below.{allBelow, sumBelow, joinBelow, mapBelow}
 use Rattle.table_spec.specs.Limits.{maxLines, maxEntries, maxBytes}
 use Rattle.table_spec.specs.Layout.{rowAt, laid, needs, starts, neighbourNumbers, row, need, lines, tableOf}
-use Rattle.table_spec.specs.Holds.{within, complete, needsInRange, neverFall, shortRows, validEntry, validRow, validRows, soundRows, mirrored, twoWay, holds}
+use Rattle.table_spec.specs.Holds.{within, complete, needsInRange, neverFall, shortRows, validEntry, validRow, validRows, soundRows, mirrored, twoWay, canBeMet, holds}
 use Rattle.table_spec.specs.TableOutcomes.{degreeOutcome, rowOutcome, rowBefore, rowPlaceOutcome}
 
 most-lines : maxLines ≡ 5888
@@ -33,12 +33,12 @@ path-laid : tableOf 3 (1 ∷ 1 ∷ 1 ∷ []) pathRows ≡ path 1
 unfolding path pathRows tableOf laid joinBelow mapBelow
 path-laid = refl
 
--- one bus without lines, need 24; Path; Path with entries beyond
+-- one bus without lines, need 1; Path; Path with entries beyond; Path whose middle bus needs both neighbours
 networks : List (List ℕ)
 unfolding path
-networks = (1 ∷ 24 ∷ 0 ∷ 0 ∷ []) ∷ path 1 ∷ (path 1 ++ 9 ∷ 9 ∷ []) ∷ []
+networks = (1 ∷ 1 ∷ 0 ∷ 0 ∷ []) ∷ path 1 ∷ (path 1 ++ 9 ∷ 9 ∷ []) ∷ path 2 ∷ []
 
-networks-hold : map holds networks ≡ true ∷ true ∷ true ∷ []
+networks-hold : map holds networks ≡ true ∷ true ∷ true ∷ true ∷ []
 unfolding networks holds twoWay complete within needsInRange soundRows neverFall shortRows validRows validRow validEntry mirrored rowAt needs starts neighbourNumbers row at allBelow
 networks-hold = refl
 
@@ -47,7 +47,7 @@ one-sided : List ℕ
 one-sided = 3 ∷ 1 ∷ 1 ∷ 1 ∷ 0 ∷ 1 ∷ 3 ∷ 4 ∷ 1 ∷ 0 ∷ 2 ∷ 0 ∷ []
 
 others : List (List ℕ)
-unfolding one-sided
+unfolding one-sided path
 others =
     []
     -- no bus; a bus count above 512
@@ -67,12 +67,25 @@ others =
     ∷ (3 ∷ 1 ∷ 1 ∷ 1 ∷ 0 ∷ 1 ∷ 3 ∷ 4 ∷ 1 ∷ 2 ∷ 0 ∷ 1 ∷ [])
     ∷ (2 ∷ 1 ∷ 1 ∷ 0 ∷ 2 ∷ 4 ∷ 1 ∷ 1 ∷ 0 ∷ 0 ∷ [])
     ∷ one-sided
+    -- a need that cannot be met: 3 at Path's middle bus; 2 and 24 at a bus without lines
+    ∷ path 3
+    ∷ (1 ∷ 2 ∷ 0 ∷ 0 ∷ [])
+    ∷ (1 ∷ 24 ∷ 0 ∷ 0 ∷ [])
     ∷ []
 
 others-do-not :
-    map holds others ≡ false ∷ false ∷ false ∷ false ∷ false ∷ false ∷ false ∷ false ∷ false ∷ false ∷ false ∷ false ∷ false ∷ []
-unfolding others holds twoWay complete within needsInRange soundRows neverFall shortRows validRows validRow validEntry mirrored rowAt needs starts neighbourNumbers row at allBelow
+    map holds others ≡ false ∷ false ∷ false ∷ false ∷ false ∷ false ∷ false ∷ false ∷ false ∷ false ∷ false ∷ false ∷ false ∷ false ∷ false ∷ false ∷ []
+unfolding others path holds twoWay complete within needsInRange soundRows neverFall shortRows validRows validRow validEntry mirrored rowAt needs starts neighbourNumbers row at allBelow
 others-do-not = refl
+
+-- needs up to 24 are in range, whatever the degrees
+needs-in-range : map needsInRange ((1 ∷ 24 ∷ []) ∷ (24 ∷ 25 ∷ []) ∷ (0 ∷ 1 ∷ []) ∷ []) ≡ true ∷ false ∷ false ∷ []
+unfolding needsInRange within at allBelow
+needs-in-range = refl
+
+-- needs 1, 2 and 3 without lines, and at a bus of degree 2
+met : (map (λ k. canBeMet k 0) (1 ∷ 2 ∷ 3 ∷ []) ≡ true ∷ false ∷ false ∷ []) × (map (λ k. canBeMet k 2) (1 ∷ 2 ∷ 3 ∷ []) ≡ true ∷ true ∷ false ∷ [])
+met = (refl, refl)
 
 -- a bus with lines to n others: 23 are allowed, 24 are not
 unfoldable pub star : ℕ → List ℕ

@@ -2,7 +2,7 @@
 use mathlib.Core.Bool.{Bool, true, false, not, _&&_}
 use mathlib.Core.List.{List}
 use mathlib.Core.Path.{_≡_, sym, ap, _∙_}
-use Prim.Native.Nat.{ℕ, _+_, _≤_, _<_}
+use Prim.Native.Nat.{ℕ, _+_, _-_, _≤_, _<_}
 use native.Mathlib.Omega.{arith}
 use borrow.Author.Tests.{leb-true, ltb-true, eqb-true, eqb-false, not-true, le-leb, lt-ltb, eq-eqb, ne-eqb}
 use lib.Dec.{leb, ltb, eqb}
@@ -10,11 +10,11 @@ use lib.ListN.{length}
 use Rattle.lists.specs.Lists.{has, at}
 use Rattle.lists.specs.Below.{allBelow}
 use Rattle.lists.specs.Tests.{and-both, and-left, and-right, and-fails-left}
-use Rattle.lists.specs.Loops.{allBelow-at, allBelow-by}
+use Rattle.lists.specs.Loops.{allBelow-at, allBelow-by, allBelow-same}
 use Rattle.table_spec.specs.Limits.{maxBuses, maxDegree, maxNeed}
-use Rattle.table_spec.specs.Layout.{rowAt, busCount, needs, starts, entries, neighbourNumbers, startsAt}
-use Rattle.table_spec.specs.Rows.{last-read, length-needs, room}
-use Rattle.table_spec.specs.Holds.{within, agree, complete, needsInRange, neverFall, shortRows, validEntry, validRow, validRows, soundRows, mirrored, twoWay, holds, Complete, NeedsInRange, Steps, ValidRow, SoundRows, Mirrored, Holds}
+use Rattle.table_spec.specs.Layout.{rowAt, busCount, needs, starts, entries, neighbourNumbers, startsAt, row}
+use Rattle.table_spec.specs.Rows.{row-length, last-read, length-needs, room}
+use Rattle.table_spec.specs.Holds.{within, agree, complete, needsInRange, neverFall, shortRows, validEntry, validRow, validRows, soundRows, mirrored, twoWay, canBeMet, needsCanBeMet, holds, Complete, NeedsInRange, Steps, ValidRow, SoundRows, Mirrored, Holds}
 
 pub within-test : (a b x : ℕ) → a ≤ x → x ≤ b → within a b x ≡ true
 unfolding within
@@ -68,6 +68,10 @@ module _ (q : List ℕ) where
   pub needs-test : NeedsInRange q → needsInRange q ≡ true
   unfolding needsInRange
   needs-test f = allBelow-by _ (length q) (λ i b. within-test 1 maxNeed (at q i) (f i b .0) (f i b .1))
+
+-- and whether they can be met, by the same degrees found otherwise
+pub met-same : (n : ℕ) (q : List ℕ) {f g : ℕ → ℕ} → ((i : ℕ) → i < n → f i ≡ g i) → needsCanBeMet n q f ≡ needsCanBeMet n q g
+met-same n q h = allBelow-same _ _ n (λ i b. ap (canBeMet (at q i)) (h i b))
 
 -- ---- the rows
 
@@ -160,6 +164,23 @@ module _ (from : ℕ) (t : List ℕ) {n : ℕ} {s l : List ℕ} (en : n ≡ busC
   unfolding twoWay
   two-way-read r m = rw (rw (en, es, el) at r) (rw (en, es, el) at m)
 
+pub two-way-test : (from : ℕ) (t : List ℕ) → SoundRows (busCount t) (starts from t) (neighbourNumbers from t)
+    → Mirrored (busCount t) (starts from t) (neighbourNumbers from t) → twoWay from t ≡ true
+unfolding twoWay
+two-way-test from t r m = and-both _ _ (rows-test _ _ _ r) (mirrored-test _ _ _ m)
+
+module _ (from : ℕ) (t : List ℕ) (c : Complete from t) (w : twoWay from t ≡ true) where
+  abbrev rowsSound : Bool
+  rowsSound = soundRows (busCount t) (starts from t) (neighbourNumbers from t)
+
+  pub two-way-rows : SoundRows (busCount t) (starts from t) (neighbourNumbers from t)
+  unfolding twoWay
+  two-way-rows = let g = room from t c in rows-facts _ _ _ (g .0) (g .1) (and-left rowsSound _ w)
+
+  pub two-way-mirrored : Mirrored (busCount t) (starts from t) (neighbourNumbers from t)
+  unfolding twoWay
+  two-way-mirrored = mirrored-facts _ _ _ (and-right rowsSound _ w)
+
 -- ---- a network
 
 module _ (t : List ℕ) where
@@ -168,37 +189,45 @@ module _ (t : List ℕ) where
   holds-needs w i b = let l : i < busCount t = omega (arith, length-needs t (w .shape .complete)) in (w .shape .needed i l, w .limited i l)
 
   pub holds-facts : holds t ≡ true → Holds t
-  unfolding holds twoWay
+  unfolding holds
   holds-facts w =
-      let n = busCount t in
-      let s = starts (startsAt t) t in
-      let l = neighbourNumbers (startsAt t) t in
-      let w1 = and-left (complete (startsAt t) t && needsInRange (needs t)) _ w in
-      let w2 = and-right (complete (startsAt t) t && needsInRange (needs t)) _ w in
-      let c = complete-facts (startsAt t) t (and-left (complete (startsAt t) t) _ w1) in
-      let g = room (startsAt t) t c in
-      let f = needs-facts (needs t) (and-right (complete (startsAt t) t) _ w1) in
+      let from = startsAt t in
+      let w2 = and-left (complete from t && needsInRange (needs t) && twoWay from t) _ w in
+      let w1 = and-left (complete from t && needsInRange (needs t)) _ w2 in
+      let c = complete-facts from t (and-left (complete from t) _ w1) in
+      let f = needs-facts (needs t) (and-right (complete from t) _ w1) in
+      let r = and-right (complete from t && needsInRange (needs t)) _ w2 in
       let long = length-needs t c in
       record {
-        shape = record {
-          complete = c;
-          needed = λ i b. f i (omega arith) .0;
-          rows = rows-facts n s l (g .0) (g .1) (and-left (soundRows n s l) _ w2);
-        };
-        mirrored = mirrored-facts n s l (and-right (soundRows n s l) _ w2);
+        shape = record { complete = c; needed = λ i b. f i (omega arith) .0; rows = two-way-rows from t c r };
+        mirrored = two-way-mirrored from t c r;
         limited = λ i b. f i (omega arith) .1;
+        met = λ i b. allBelow-at _ (busCount t) (and-right (complete from t && needsInRange (needs t) && twoWay from t) _ w) b;
       }
 
   pub holds-test : Holds t → holds t ≡ true
-  unfolding holds twoWay
-  holds-test w =
-      let s = starts (startsAt t) t in
-      let l = neighbourNumbers (startsAt t) t in
-      rw (complete-test (startsAt t) t (w .shape .complete), needs-test (needs t) (holds-needs w), rows-test (busCount t) s l (w .shape .rows))
-      (mirrored-test (busCount t) s l (w .mirrored))
-
-  -- as code tests it: the row starts begin at `from` and the needs are q, and b is the test of the rows
-  pub holds-read : {from : ℕ} {q : List ℕ} {b : Bool} → from ≡ startsAt t → q ≡ needs t → complete from t ≡ true → needsInRange q ≡ true
-      → b ≡ twoWay from t → b ≡ holds t
   unfolding holds
-  holds-read eh eq c f r = rw (rw eh at c, rw eq at f) (rw eh at r)
+  holds-test w =
+      rw (complete-test _ t (w .shape .complete), needs-test (needs t) (holds-needs w), two-way-test _ t (w .shape .rows) (w .mirrored))
+      (allBelow-by _ (busCount t) (w .met))
+
+  -- as code tests it: row starts, which begin at `from`, were read into s, needs into q, and the tests of entries and rows were passed
+  module _ {from : ℕ} {s q : List ℕ} (eh : from ≡ startsAt t) (es : s ≡ starts from t) (eq : q ≡ needs t) (c : complete from t ≡ true) (r : twoWay from t ≡ true) where
+    whole : Complete (startsAt t) t
+    whole = rw eh at (complete-facts from t c)
+
+    sound : SoundRows (busCount t) (starts (startsAt t) t) (neighbourNumbers (startsAt t) t)
+    sound = two-way-rows (startsAt t) t whole (rw eh at r)
+
+    counted : length q ≡ busCount t
+    counted = rw eq (length-needs t whole)
+
+    pub steps-read : (length q < length s) × Steps (length q) s
+    steps-read = rw (counted, es, eh) (sound .spans .long, sound .spans .steps)
+
+    -- b is the test whether needs can be met
+    pub holds-read : {b : Bool} → needsInRange q ≡ true → b ≡ needsCanBeMet (length q) q (λ i. at s (i + 1) - at s i) → b ≡ holds t
+    unfolding holds row
+    holds-read f m =
+        rw (rw eh at c, rw eq at f, rw eh at r)
+        (rw (counted, eq, es, eh) at m ∙ met-same (busCount t) (needs t) (λ i b. sym (row-length _ _ _ (sound .spans) i b)))

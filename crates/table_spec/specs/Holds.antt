@@ -1,6 +1,7 @@
--- What makes a slice hold a network: the scope's paragraph, clause by clause, as tests that compute and as facts. `Facts` shows them equivalent.
+-- What makes a slice hold a network: the scope's paragraph, clause by clause, and order 5's clause, as tests that compute and as facts. `Facts` shows
+-- them equivalent.
 -- Definitions only.
-use mathlib.Core.Bool.{Bool, true, false, not, _&&_}
+use mathlib.Core.Bool.{Bool, true, false, not, _&&_, _||_}
 use mathlib.Core.List.{List}
 use mathlib.Core.Path.{_≡_}
 use Prim.Native.Nat.{ℕ, _+_, _≤_, _<_}
@@ -9,7 +10,7 @@ use lib.ListN.{length}
 use Rattle.lists.specs.Lists.{has, at, Ascending}
 use Rattle.lists.specs.Below.{allBelow}
 use Rattle.table_spec.specs.Limits.{maxBuses, maxDegree, maxNeed}
-use Rattle.table_spec.specs.Layout.{rowAt, busCount, needs, starts, entries, neighbourNumbers, startsAt}
+use Rattle.table_spec.specs.Layout.{rowAt, busCount, needs, starts, entries, neighbourNumbers, startsAt, degree}
 
 -- x is from a to b
 unfoldable pub within : ℕ → ℕ → ℕ → Bool
@@ -61,9 +62,17 @@ mirrored n s l = allBelow n (λ i. allBelow n (λ j. agree (has j (rowAt s l i))
 unfoldable pub twoWay : ℕ → List ℕ → Bool
 twoWay from t = soundRows (busCount t) (starts from t) (neighbourNumbers from t) && mirrored (busCount t) (starts from t) (neighbourNumbers from t)
 
+-- need k can be met at a bus of degree d: it does not exceed the degree; a bus without lines may have need 1
+abbrev pub canBeMet : ℕ → ℕ → Bool
+canBeMet k d = leb k d || (eqb d 0 && eqb k 1)
+
+-- so can the needs q of n buses of these degrees
+abbrev pub needsCanBeMet : ℕ → List ℕ → (ℕ → ℕ) → Bool
+needsCanBeMet n q degrees = allBelow n (λ i. canBeMet (at q i) (degrees i))
+
 -- a slice holds a network
 unfoldable pub holds : List ℕ → Bool
-holds t = complete (startsAt t) t && needsInRange (needs t) && twoWay (startsAt t) t
+holds t = complete (startsAt t) t && needsInRange (needs t) && twoWay (startsAt t) t && needsCanBeMet (busCount t) (needs t) (degree t)
 
 -- ---- the same as facts
 
@@ -104,8 +113,9 @@ pub record Scorable (t : List ℕ) : Type 0 where
   pub needed : (i : ℕ) → i < busCount t → 1 ≤ at (needs t) i
   pub rows : SoundRows (busCount t) (starts (startsAt t) t) (neighbourNumbers (startsAt t) t)
 
--- what makes it a network's: lines run both ways, and needs keep their limits
+-- what makes it a network's: lines run both ways, needs keep their limits, and each can be met
 pub record Holds (t : List ℕ) : Type 0 where
   pub shape : Scorable t
   pub mirrored : Mirrored (busCount t) (starts (startsAt t) t) (neighbourNumbers (startsAt t) t)
   pub limited : (i : ℕ) → i < busCount t → at (needs t) i ≤ maxNeed
+  pub met : (i : ℕ) → i < busCount t → canBeMet (at (needs t) i) (degree t i) ≡ true

@@ -1,4 +1,5 @@
 -- Rows laid out in a line table are read back as they were, and make a network if they are a network's.
+use mathlib.Core.Bool.{true}
 use mathlib.Core.List.{List, [], _∷_, _++_, append-assoc, append-nil}
 use mathlib.Core.Path.{_≡_, refl, sym, ap, ap₂, _∙_}
 use Prim.Native.Nat.{ℕ, _+_, _-_, _*_, _≤_, _<_}
@@ -11,7 +12,7 @@ use Rattle.lists.specs.Loops.{joinBelow-next}
 use Rattle.lists.specs.JoinBelow.{length-mapBelow, mapBelow-at, joinBelow-at, mapBelow-same, joinBelow-same}
 use Rattle.table_spec.specs.Limits.{maxBuses, maxDegree}
 use Rattle.table_spec.specs.Layout.{rowAt, laid, busCount, needs, starts, last, entries, neighbourNumbers, startsAt, row, tableOf}
-use Rattle.table_spec.specs.Holds.{NeedsInRange, ValidRow, SoundRows, Holds}
+use Rattle.table_spec.specs.Holds.{canBeMet, NeedsInRange, ValidRow, SoundRows, Holds}
 use Rattle.table_spec.specs.TableOutcomes.{SameNetwork}
 use Rattle.table_spec.specs.BeyondTable.{beyond}
 
@@ -123,9 +124,9 @@ module _ (n : ℕ) (q : List ℕ) (rows : ℕ → List ℕ) (rest : List ℕ) (l
 
   -- rows that a network may have make one
   pub made-holds : 1 ≤ n → n ≤ maxBuses → NeedsInRange q → ((i : ℕ) → i < n → ValidRow n i (rows i)) → ((i : ℕ) → i < n → length (rows i) ≤ maxDegree)
-      → ((i j : ℕ) → i < n → j < n → has j (rows i) ≡ has i (rows j)) → Holds made
+      → ((i j : ℕ) → i < n → j < n → has j (rows i) ≡ has i (rows j)) → ((i : ℕ) → i < n → canBeMet (at q i) (length (rows i)) ≡ true) → Holds made
   unfolding tableOf row at
-  made-holds least most in-range valid short mirror =
+  made-holds least most in-range valid short mirror met =
       record {
         shape = record {
           complete = record { least = least; most = most; whole = omega (arith, made-last, length-tableOf n q rows long, length-append (tableOf n q rows) rest) };
@@ -134,6 +135,7 @@ module _ (n : ℕ) (q : List ℕ) (rows : ℕ → List ℕ) (rest : List ℕ) (l
         };
         mirrored = λ i j b c. ap (has j) (made-row i b) ∙ mirror i j b c ∙ sym (ap (has i) (made-row j c));
         limited = λ i b. rw made-needs (in-range i (omega (arith, made-busCount)) .1);
+        met = λ i b. rw (made-needs, made-row i b) (met i b);
       }
 
 -- what follows a table that was made never matters

@@ -38,7 +38,7 @@ record Case : Type 0 where
 case : List ℕ → List ℕ → ℕ → Case
 case t numerators over = record { table = t; numerators = numerators; over = over }
 
--- the scope's starred networks, and one with a bus alone
+-- the scope's starred networks, and one with a bus alone. The formula gives values also where a need cannot be met, and the table holds no network
 cases : List Case
 unfolding lone pair path triangle apart case
 cases =

@@ -23,10 +23,10 @@ path-answers :
 unfolding path filled decimal numeratorOver ownTerm neighbourTerm divisorsOf largestDegree largestBelow lcmAll lcmOf gcdOf mapBelow joinBelow lines sumBelow holds twoWay complete within needsInRange soundRows neverFall shortRows validRows validRow validEntry mirrored allBelow rowAt needs starts neighbourNumbers row at
 path-answers = (refl, refl)
 
--- the sheet of one bus without lines, `buses 1 lines 0 over 1` and `0 24 0 1 1/1`, in front of what stood behind it; refused, nothing is changed
+-- the sheet of one bus without lines, `buses 1 lines 0 over 1` and `0 1 0 1 1/1`, in front of what stood behind it; refused, nothing is changed
 lone-after :
-    (sheetAfter (networkOf (1 ∷ 24 ∷ 0 ∷ 0 ∷ [])) (replicate 38 7)
-    ≡ 98 ∷ 117 ∷ 115 ∷ 101 ∷ 115 ∷ 32 ∷ 49 ∷ 32 ∷ 108 ∷ 105 ∷ 110 ∷ 101 ∷ 115 ∷ 32 ∷ 48 ∷ 32 ∷ 111 ∷ 118 ∷ 101 ∷ 114 ∷ 32 ∷ 49 ∷ 10 ∷ 48 ∷ 32 ∷ 50 ∷ 52 ∷ 32 ∷ 48 ∷ 32 ∷ 49 ∷ 32 ∷ 49 ∷ 47 ∷ 49 ∷ 10 ∷ 7 ∷ 7 ∷ [])
-    × (sheetAfter (networkOf (1 ∷ 24 ∷ 0 ∷ 0 ∷ [])) (7 ∷ 8 ∷ []) ≡ 7 ∷ 8 ∷ [])
+    (sheetAfter (networkOf (1 ∷ 1 ∷ 0 ∷ 0 ∷ [])) (replicate 37 7)
+    ≡ 98 ∷ 117 ∷ 115 ∷ 101 ∷ 115 ∷ 32 ∷ 49 ∷ 32 ∷ 108 ∷ 105 ∷ 110 ∷ 101 ∷ 115 ∷ 32 ∷ 48 ∷ 32 ∷ 111 ∷ 118 ∷ 101 ∷ 114 ∷ 32 ∷ 49 ∷ 10 ∷ 48 ∷ 32 ∷ 49 ∷ 32 ∷ 48 ∷ 32 ∷ 49 ∷ 32 ∷ 49 ∷ 47 ∷ 49 ∷ 10 ∷ 7 ∷ 7 ∷ [])
+    × (sheetAfter (networkOf (1 ∷ 1 ∷ 0 ∷ 0 ∷ [])) (7 ∷ 8 ∷ []) ≡ 7 ∷ 8 ∷ [])
 unfolding filled decimal numeratorOver ownTerm neighbourTerm divisorsOf largestDegree largestBelow lcmAll lcmOf gcdOf mapBelow joinBelow lines sumBelow holds twoWay complete within needsInRange soundRows neverFall shortRows validRows validRow validEntry mirrored allBelow rowAt needs starts neighbourNumbers row at
 lone-after = (refl, refl)

@@ -19,9 +19,9 @@ path-file = refl
 
 -- a triangle and a bus alone, with entries beyond the table: each line once, by first bus, then by second
 triangle : List ℕ
-triangle = 4 ∷ 1 ∷ 2 ∷ 24 ∷ 1 ∷ 0 ∷ 2 ∷ 4 ∷ 6 ∷ 6 ∷ 1 ∷ 2 ∷ 0 ∷ 2 ∷ 0 ∷ 1 ∷ 9 ∷ 9 ∷ []
+triangle = 4 ∷ 1 ∷ 2 ∷ 2 ∷ 1 ∷ 0 ∷ 2 ∷ 4 ∷ 6 ∷ 6 ∷ 1 ∷ 2 ∷ 0 ∷ 2 ∷ 0 ∷ 1 ∷ 9 ∷ 9 ∷ []
 
-triangle-file : fileOf triangle ≡ 4 ∷ 0 ∷ 1 ∷ 2 ∷ 24 ∷ 1 ∷ 3 ∷ 0 ∷ 0 ∷ 0 ∷ 1 ∷ 0 ∷ 0 ∷ 0 ∷ 2 ∷ 0 ∷ 1 ∷ 0 ∷ 2 ∷ 0 ∷ []
+triangle-file : fileOf triangle ≡ 4 ∷ 0 ∷ 1 ∷ 2 ∷ 2 ∷ 1 ∷ 3 ∷ 0 ∷ 0 ∷ 0 ∷ 1 ∷ 0 ∷ 0 ∷ 0 ∷ 2 ∷ 0 ∷ 1 ∷ 0 ∷ 2 ∷ 0 ∷ []
 unfolding triangle fileOf pairRecords recordOf word lines needs row rowAt starts neighbourNumbers at joinBelow sumBelow
 triangle-file = refl
 

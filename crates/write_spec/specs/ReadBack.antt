@@ -1,5 +1,5 @@
 -- READ BACK: Read accepts the file of a network, gives its n and m, and stores its table.
-use mathlib.Core.Bool.{true, false}
+use mathlib.Core.Bool.{true, false, not}
 use mathlib.Core.List.{List, _∷_, _++_}
 use mathlib.Core.Logic.{⊎-elim}
 use mathlib.Core.Path.{_≡_, sym, ap, ap₂, subst, _∙_}
@@ -11,6 +11,7 @@ use lib.Dec.{ltb}
 use lib.ListN.{length, take}
 use Rattle.lists.specs.Lists.{has, put}
 use Rattle.lists.specs.Tests.{split, same-test}
+use Rattle.lists.specs.Loops.{allBelow-by}
 use Rattle.lists.specs.Counts.{has-in}
 use Rattle.lists.specs.JoinBelow.{joinBelow-same}
 use Rattle.lists.specs.ListBelow.{listBelow-same, listBelow-members}
@@ -26,7 +27,7 @@ use Rattle.table_spec.specs.LaidAgain.{made-again}
 use Rattle.file_spec.specs.FileBytes.{fileBusCount, needBytes, fileLineCount, records, firstEnd, secondEnd}
 use Rattle.file_spec.specs.SoundSections.{SoundSections, SoundEnds, ends-test}
 use Rattle.file_spec.specs.RecordOrder.{outOfOrder}
-use Rattle.file_spec.specs.Records.{joined, neighbours, degreeTooHigh, pairCount}
+use Rattle.file_spec.specs.Records.{joined, neighbours, degreeTooHigh, needAboveDegree, pairCount}
 use Rattle.file_spec.specs.RecordPairs.{joined-sym, joined-at, joined-by, rows-length}
 use Rattle.file_spec.specs.RecordNeighbours.{degrees-test}
 use Rattle.file_spec.specs.OrderedRecords.{order-test}
@@ -115,6 +116,9 @@ module _ (t : List ℕ) (w : Holds t) where
   degrees : degreeTooHigh n m r ≡ false
   degrees = degrees-test n m r (λ i b. rw (neighbours-row i b) (degree-le (w .shape) i b))
 
+  met : needAboveDegree n (needs t) m r ≡ false
+  met = ap not (allBelow-by _ n (λ i b. rw (neighbours-row i b) (w .met i b)))
+
   -- and no pair is named twice
   once : pairCount m r ≡ m
   once = omega (arith, rows-length n m r ends, ap length (joinBelow-same (neighbours n m r) (row t) n neighbours-row), length-rows t w)
@@ -172,6 +176,7 @@ module _ (t : List ℕ) (w : Holds t) where
       (rw (same-records, same-lines, same-buses) (ends-test n m r ends))
       (rw (same-records, same-lines) order)
       (rw (same-records, same-lines, same-buses) degrees)
+      (rw (same-needs, same-records, same-lines, same-buses) met)
       (rw (same-records, same-lines, same-buses, once) room)
 
   file-read : (x : List ℕ) → tableEntries n m ≤ length x → ReadBack t (fileOf t) x

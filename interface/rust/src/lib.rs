@@ -135,6 +135,7 @@ pub fn limits() -> Limits {
 /// which limits the records, or [`FileTooLong`](Refusal::FileTooLong), in file order; then, each
 /// over all records before the next, with [`LineEnds`](Refusal::LineEnds),
 /// [`OutOfOrder`](Refusal::OutOfOrder) or [`DegreeTooHigh`](Refusal::DegreeTooHigh); then with
+/// [`NeedAboveDegree`](Refusal::NeedAboveDegree); then with
 /// [`TableTooShort`](Refusal::TableTooShort). A refused call leaves the network that `table` held.
 ///
 /// ```
@@ -158,6 +159,10 @@ pub fn limits() -> Limits {
 /// // the second record names its higher bus first: 1, 0
 /// let turned = [3, 0, 1, 1, 1, 2, 0, 0, 0, 1, 0, 1, 0, 0, 0];
 /// assert_eq!(read(&turned, &mut table), Err(Refusal::OutOfOrder));
+///
+/// // bus 1 has two neighbours, and its need is 3
+/// let needing = [3, 0, 1, 3, 1, 2, 0, 0, 0, 1, 0, 1, 0, 2, 0];
+/// assert_eq!(read(&needing, &mut table), Err(Refusal::NeedAboveDegree));
 /// # Ok::<(), Refusal>(())
 /// ```
 pub fn read(file: &[u8], table: &mut [u16]) -> Result<Counts, Refusal> {
@@ -199,11 +204,11 @@ pub fn read(file: &[u8], table: &mut [u16]) -> Result<Counts, Refusal> {
 /// assert_eq!(file[..bytes], path);
 ///
 /// // built in memory: n, the needs, the row starts, and the rows of buses 0 to 3
-/// let built = [4, 1, 2, 1, 24, 0, 1, 3, 4, 6, 3, 2, 3, 1, 0, 1];
+/// let built = [4, 1, 2, 1, 2, 0, 1, 3, 4, 6, 3, 2, 3, 1, 0, 1];
 /// let mut file = [0; 20];
 /// assert_eq!(write(&built, &mut file), Ok(20));
 /// // the records, from byte 8 on, join 0 and 3, 1 and 2, 1 and 3
-/// assert_eq!(file, [4, 0, 1, 2, 1, 24, 3, 0, 0, 0, 3, 0, 1, 0, 2, 0, 1, 0, 3, 0]);
+/// assert_eq!(file, [4, 0, 1, 2, 1, 2, 3, 0, 0, 0, 3, 0, 1, 0, 2, 0, 1, 0, 3, 0]);
 ///
 /// assert_eq!(write(&built, &mut file[..19]), Err(Refusal::BytesTooShort));
 /// assert_eq!(write(&built[..15], &mut []), Err(Refusal::NoNetwork));

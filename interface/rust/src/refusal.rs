@@ -49,6 +49,8 @@ pub enum Refusal {
     OutOfOrder,
     /// Too few bytes are lent for the file.
     BytesTooShort,
+    /// A need is above its bus's degree, and the bus is not one without lines that has need 1.
+    NeedAboveDegree,
 }
 
 impl Refusal {
@@ -88,6 +90,9 @@ impl Refusal {
                  before it"
             }
             Refusal::BytesTooShort => "too few bytes are lent for the file",
+            Refusal::NeedAboveDegree => {
+                "a need is above its bus's degree, and is not 1 at a bus without lines"
+            }
         }
     }
 }
@@ -119,6 +124,7 @@ pub(crate) fn accepted(status: u32) -> Result<(), Refusal> {
         14 => Refusal::TextTooShort,
         15 => Refusal::OutOfOrder,
         16 => Refusal::BytesTooShort,
+        17 => Refusal::NeedAboveDegree,
         _ => panic!("share_sheet_c returned {status}, which stands for no refusal"),
     })
 }
@@ -132,7 +138,7 @@ mod tests {
     fn every_number_has_a_refusal_and_words_of_its_own() {
         assert_eq!(accepted(0), Ok(()));
         let mut words = HashSet::new();
-        for number in (1..=16).filter(|&number| number != 8) {
+        for number in (1..=17).filter(|&number| number != 8) {
             let refused = accepted(number).unwrap_err();
             assert_eq!(u32::from(refused.number()), number);
             assert!(words.insert(refused.words()), "{refused}");
@@ -141,9 +147,9 @@ mod tests {
     }
 
     #[test]
-    #[should_panic(expected = "returned 17")]
+    #[should_panic(expected = "returned 18")]
     fn an_unknown_number_is_no_refusal() {
-        let _ = accepted(17);
+        let _ = accepted(18);
     }
 
     #[test]

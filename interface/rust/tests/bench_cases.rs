@@ -1,4 +1,4 @@
-//! The bench cases of the scope, starred ones included, and of orders 1 to 3, through the boundary.
+//! The bench cases of the scope, starred ones included, and of orders 1 to 5, through the boundary.
 
 use share_sheet::{
     cancel, degree, limits, read, row, share, shares, sheet_line, whole_sheet, write, Counts,
@@ -79,7 +79,8 @@ fn refuses(file: &[u8], number: u8) {
 #[test]
 fn one_bus() {
     scores(&file(&[1], &[]), 1, &[1]);
-    scores(&file(&[24], &[]), 1, &[1]);
+    refuses(&file(&[24], &[]), 17);
+    refuses(&file(&[2], &[]), 17);
 }
 
 #[test]
@@ -93,7 +94,44 @@ fn path() {
     assert_eq!(file(&[1, 1, 1], &lines), PATH);
     scores(&PATH, 6, &[5, 8, 5]);
     scores(&file(&[1, 2, 1], &lines), 6, &[4, 10, 4]);
-    scores(&file(&[1, 3, 1], &lines), 6, &[3, 12, 3]);
+    refuses(&file(&[1, 3, 1], &lines), 17);
+}
+
+/// A need may be as high as the degree, and 1 where there is no line; no higher. 17 is given after 7
+/// and before 10, and calls on such a table find no network.
+#[test]
+fn needs_that_cannot_be_met() {
+    let lines = [(0, 1), (1, 2)];
+    for (needs, holds) in [
+        ([1, 2, 1, 1], true),
+        ([1, 3, 1, 1], false),
+        ([2, 2, 1, 1], false),
+        ([1, 2, 1, 2], false),
+        ([1, 24, 24, 24], false),
+    ] {
+        let built = [&[4][..], &needs.map(u16::from), &[0, 1, 3, 4, 4, 1, 0, 2, 1]].concat();
+        if holds {
+            assert_eq!(table(&file(&needs, &lines)), built);
+            scores(&file(&needs, &lines), 6, &[4, 10, 4, 6]);
+        } else {
+            refuses(&file(&needs, &lines), 17);
+            assert_eq!(degree(&built, 0), Err(Refusal::NoNetwork));
+            assert_eq!(share(&built, 9), Err(Refusal::NoNetwork));
+            assert_eq!(shares(&built, &mut []), Err(Refusal::NoNetwork));
+            assert_eq!(write(&built, &mut []), Err(Refusal::NoNetwork));
+        }
+    }
+
+    // bus 0 with 23 neighbours or 24, and the last of them with need 2
+    let star = |leaves| (1..=leaves).map(|leaf| (0, leaf)).collect::<Vec<_>>();
+    let needs = |leaves| [&vec![1; leaves][..], &[2]].concat();
+    refuses(&file(&needs(23), &star(23)), 17);
+    refuses(&file(&needs(24), &star(24)), 7);
+    // and records out of order
+    refuses(&file(&needs(2), &[(0, 2), (0, 1)]), 15);
+    // bus 0 needs all of its neighbours, which parallel circuits do not make more
+    scores(&file(&[2, 1, 1], &[(0, 1), (0, 2), (0, 2)]), 6, &[10, 4, 4]);
+    refuses(&file(&[3, 1, 1], &[(0, 1), (0, 2), (0, 2)]), 17);
 }
 
 #[test]
@@ -282,10 +320,10 @@ fn written_files() {
     writes(&PATH_TABLE, &PATH);
     // entries behind the table do not matter
     writes(&[&PATH_TABLE[..], &[1, 2, 3]].concat(), &PATH);
-    writes(&[1, 24, 0, 0], &[1, 0, 24, 0, 0]);
+    writes(&[1, 1, 0, 0], &[1, 0, 1, 0, 0]);
     // built in memory
-    let built = [4, 1, 2, 1, 24, 0, 1, 3, 4, 6, 3, 2, 3, 1, 0, 1];
-    writes(&built, &file(&[1, 2, 1, 24], &[(0, 3), (1, 2), (1, 3)]));
+    let built = [4, 1, 2, 1, 2, 0, 1, 3, 4, 6, 3, 2, 3, 1, 0, 1];
+    writes(&built, &file(&[1, 2, 1, 2], &[(0, 3), (1, 2), (1, 3)]));
     // by numbers, and not by their bytes, of which the low one stands in front
     let high = [(0, 2), (0, 255), (0, 256), (1, 257), (2, 3), (255, 256), (256, 258), (257, 258)];
     let high = file(&[1; 512], &high);

@@ -4,7 +4,7 @@
 mod made;
 mod plain;
 
-use made::{Network, Random};
+use made::{highest_need, Network, Random};
 use share_sheet::{limits, Counts, Fraction, Refusal};
 use std::fmt::Debug;
 
@@ -15,7 +15,7 @@ const FRACTIONS: usize = 500_000;
 
 /// How often a call was accepted (entry 0) and refused with each number.
 #[derive(Clone, Copy, Default)]
-struct Tally([usize; 17]);
+struct Tally([usize; 18]);
 
 impl Tally {
     fn count<A>(&mut self, answer: &Result<A, u8>) {
@@ -44,13 +44,13 @@ struct Tallies {
     share: Tally,
     line: Tally,
     whole: Tally,
-    /// Terms of buses with neighbours, each time that a table is scored: the need is above the
-    /// degree, equal to it, 1, or between them.
+    /// Buses, each time that a table is scored: the need is above the degree, as it is without
+    /// lines, equal to it, 1, or between them.
     terms: [usize; 4],
 }
 
 impl Tallies {
-    /// Counts the terms of a table that holds a network.
+    /// Counts the buses of a table that holds a network.
     fn count_terms(&mut self, table: &[u16]) {
         let (needs, starts) = table[1..].split_at(table[0].into());
         for (&need, start) in needs.iter().zip(starts.windows(2)) {
@@ -61,7 +61,7 @@ impl Tallies {
                 1 => 2,
                 _ => 3,
             };
-            self.terms[case] += usize::from(degree > 0);
+            self.terms[case] += 1;
         }
     }
 
@@ -187,7 +187,8 @@ impl Orders {
         }
     }
 
-    fn count_out_of_order(&mut self, Network { needs, records }: &Network) {
+    fn count_out_of_order(&mut self, network: &Network) {
+        let Network { needs, records } = network;
         let places = out_of_order(records);
         let first = *places.first().expect("15 has a cause");
         self.first_alone += usize::from(places == [0]);
@@ -215,6 +216,7 @@ impl Orders {
         match (is_crowded(&records[..first]), is_crowded(records)) {
             (true, _) => self.crowded_before += 1,
             (_, true) => self.crowded_behind += 1,
+            _ if !unmet(network).is_empty() => {}
             _ => self.sound_but_for_order += 1,
         }
     }
@@ -238,6 +240,61 @@ impl Orders {
             self.wrong_end_behind,
         ];
         assert!(ways.iter().all(|&times| times >= 100), "{self:?}");
+    }
+}
+
+/// The need and the degree of each bus whose need cannot be met.
+fn unmet(network: &Network) -> Vec<(usize, usize)> {
+    let rows = network.rows();
+    let buses = network.needs.iter().zip(&rows).filter(|(&need, row)| need > highest_need(row));
+    buses.map(|(&need, row)| (need.into(), row.len())).collect()
+}
+
+/// How often needs were on either side of what can be met.
+#[derive(Debug, Default)]
+struct Needs {
+    /// Accepted, and a need equals the degree of its bus; a bus without lines has need 1.
+    equal: usize,
+    without_lines: usize,
+    /// Refused with 17 because of one bus alone: its need is one above its degree; it has no line,
+    /// and need 2.
+    one_above: usize,
+    two_without_lines: usize,
+    /// Refused with 15, and with 7, though a need cannot be met.
+    out_of_order: usize,
+    crowded: usize,
+}
+
+impl Needs {
+    /// Counts a file, whose answer is given.
+    fn count<A>(&mut self, file: &[u8], answer: &Result<A, u8>) {
+        let unmet = || unmet(&network(file));
+        match answer {
+            Ok(_) => {
+                let network = network(file);
+                let rows = network.rows();
+                let mut buses = network.needs.iter().zip(&rows);
+                self.equal += usize::from(buses.any(|(&need, row)| need as usize == row.len()));
+                self.without_lines += usize::from(rows.iter().any(Vec::is_empty));
+            }
+            Err(7) => self.crowded += usize::from(!unmet().is_empty()),
+            Err(15) => self.out_of_order += usize::from(!unmet().is_empty()),
+            Err(17) => match unmet()[..] {
+                [(2, 0)] => self.two_without_lines += 1,
+                [(need, degree)] => self.one_above += usize::from(need == degree + 1),
+                _ => {}
+            },
+            Err(_) => {}
+        }
+    }
+
+    /// Each occurred at least 1,000 times.
+    fn show(&self) {
+        println!("{self:?}");
+        let accepted = [self.equal, self.without_lines];
+        let refused = [self.one_above, self.two_without_lines, self.out_of_order, self.crowded];
+        let often = |times: &[usize]| times.iter().all(|&times| times >= 1_000);
+        assert!(often(&accepted) && often(&refused), "{self:?}");
     }
 }
 
@@ -367,12 +424,16 @@ fn files() {
     let mut tallies = Tallies::default();
     let mut repeats = Repeats::default();
     let mut orders = Orders::default();
+    let mut needs = Needs::default();
     let mut earlier: Vec<u16> = marks(20);
     for _ in 0..FILES {
         let file = match random.below(20) {
             0 | 1 => made::random_bytes(&mut random),
             kind => {
                 let mut network = Network::random(&mut random);
+                if random.one_in(6) {
+                    network.raise_need(&mut random);
+                }
                 // none, one or several faults
                 for _ in 0..random.below(if kind < 9 { 1 } else { 4 }) {
                     network.damage(&mut random);
@@ -389,6 +450,7 @@ fn files() {
         let spare = 2 * file.len() + random.below(9);
         let (answer, _) = read(&file, &marks(spare), &mut tallies);
         orders.count(&file, &answer);
+        needs.count(&file, &answer);
         match answer {
             Ok((n, m)) => {
                 let entries = 2 * n + 2 + 2 * m;
@@ -415,9 +477,10 @@ fn files() {
             }
         }
     }
-    tallies.read.shows("read", &[1, 2, 3, 4, 5, 6, 7, 10, 15]);
+    tallies.read.shows("read", &[1, 2, 3, 4, 5, 6, 7, 10, 15, 17]);
     repeats.show();
     orders.show();
+    needs.show();
 }
 
 #[test]
@@ -428,7 +491,11 @@ fn tables() {
         let mut table = match random.below(20) {
             0 | 1 => made::random_table(&mut random),
             kind => {
-                let network = Network::random(&mut random);
+                let mut network = Network::random(&mut random);
+                // a network, but for a need that cannot be met
+                if kind == 2 {
+                    network.raise_need(&mut random);
+                }
                 let mut rows = network.rows();
                 if kind >= 13 {
                     made::damage_rows(&mut rows, &mut random);
@@ -436,6 +503,9 @@ fn tables() {
                 let mut table = made::table(&network.needs, &rows);
                 if (9..14).contains(&kind) {
                     made::damage_table(&mut table, &mut random);
+                }
+                if kind == 2 {
+                    assert_eq!(share_sheet::degree(&table, 0), Err(Refusal::NoNetwork));
                 }
                 table
             }

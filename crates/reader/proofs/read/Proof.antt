@@ -5,7 +5,7 @@ use mathlib.Core.Path.{_≡_, sym, ap, _∙_}
 use lib.ListN.{length}
 use Rattle.refusals.specs.Outcomes.{gives}
 use Rattle.refusals.specs.Due.{stage-stop}
-use Rattle.file_spec.specs.FileBytes.{fileBusCount, fileLineCount, records}
+use Rattle.file_spec.specs.FileBytes.{fileBusCount, needBytes, fileLineCount, records}
 use Rattle.file_spec.specs.Sections.{sectionCauses, counts, sectionsOutcome}
 use Rattle.file_spec.specs.SoundSections.{length-needBytes, length-records}
 use Rattle.file_sections.specs.FileAnswers.{outcomeOfReading}
@@ -42,7 +42,7 @@ returns c =
     let f = a .file .now in
     let t = a .table .now in
     read-recorded f t
-    (stage-stop (sectionCauses f) (counts f) (recordCauses (fileBusCount f) (fileLineCount f) (records f) (length t))
+    (stage-stop (sectionCauses f) (counts f) (recordCauses (fileBusCount f) (needBytes f) (fileLineCount f) (records f) (length t))
     (sym (ap outcomeOfReading (c .before .cause .given .1)) ∙ c .before .before .before .judge .ensures))
 
 returns-2 : tie.Need-returns-2

@@ -66,18 +66,24 @@ impl Network {
             network.repeat(random);
         }
         let rows = network.rows();
-        let kind = random.below(5);
+        let kind = random.below(4);
         for (need, row) in network.needs.iter_mut().zip(&rows) {
+            let highest = highest_need(row);
             *need = match kind {
                 0 => 1,
-                1 => 24,
-                2 => 1 + random.below(24) as u8,
-                // up to one above the degree
-                _ => 1 + random.below(row.len() + 1) as u8,
+                1 => highest,
+                _ => 1 + random.below(highest.into()) as u8,
             };
         }
         network.ascend();
         network
+    }
+
+    /// Raises the need of a bus above the highest that can be met there, most often by one.
+    pub fn raise_need(&mut self, random: &mut Random) {
+        let bus = random.below(self.needs.len());
+        let lowest = highest_need(&self.rows()[bus]) + 1;
+        self.needs[bus] = random.of(&[lowest, lowest, lowest, 24]);
     }
 
     /// Lines between any buses, up to a number at each that is chosen at random. As of all lines
@@ -315,6 +321,12 @@ impl Network {
         }
         rows
     }
+}
+
+/// The highest need that can be met at a bus with these neighbours: so many, but 1 where there are
+/// none.
+pub fn highest_need(row: &[u16]) -> u8 {
+    row.len().max(1) as u8
 }
 
 /// Damages the bytes of a file.

@@ -1,4 +1,4 @@
-//! A second reading of the scope and of orders 1 to 3 in plain safe Rust, which shares nothing with
+//! A second reading of the scope and of orders 1 to 5 in plain safe Rust, which shares nothing with
 //! the library. Tests compare the library with it, and the benchmark measures against it. Refusals
 //! are their numbers.
 #![allow(dead_code)] // each program that has this module uses a part of it
@@ -55,6 +55,9 @@ pub fn read(file: &[u8], table: &mut [u16]) -> Result<(usize, usize), u8> {
     if rows.iter().any(|row| row.len() > MOST_LINES_AT_BUS) {
         return Err(7);
     }
+    if needs.iter().zip(&rows).any(|(&need, row)| cannot_be_met(need.into(), row.len())) {
+        return Err(17);
+    }
 
     let m = rows.iter().map(Vec::len).sum::<usize>() / 2;
     if table.len() < 2 * n + 2 + 2 * m {
@@ -95,6 +98,12 @@ fn is_need(need: u16) -> bool {
     (1..=MOST_NEED).contains(&need)
 }
 
+/// A need that exceeds its bus's degree cannot be met; but a bus without lines may have need 1.
+fn cannot_be_met(need: u16, degree: usize) -> bool {
+    let may_stand = degree == 0 && need == 1;
+    usize::from(need) > degree && !may_stand
+}
+
 /// The sections of a table that holds a network.
 struct Network<'a> {
     n: usize,
@@ -129,6 +138,7 @@ impl<'a> Network<'a> {
             && (0..self.n).all(|bus| {
                 let row = self.row(bus);
                 row.len() <= MOST_LINES_AT_BUS
+                    && !cannot_be_met(self.needs[bus], row.len())
                     && row.windows(2).all(|pair| pair[0] < pair[1])
                     && row.iter().all(|&other| (other as usize) < self.n && other as usize != bus)
             })

@@ -2,7 +2,7 @@
 use native.Mathlib.Omega.{arith}
 use native.Mathlib.Nat.{mod-lt}
 use lib.ListN.{getD}
-use Prim.Native.Nat.{_+_, _-_, _%_, _≤_, _<_}
+use Prim.Native.Nat.{_-_, _%_, _≤_, _<_}
 use Rattle.small_networks.specs.SizeBounds.{most}
 use borrow.Author.Needs.{needs}
 use Rattle.small_networks.proofs.choice.needs.Statement.{statement}
@@ -14,15 +14,15 @@ Inv-loop draws neighbours needs₀ bus₀ needs bus = bus ≤ most
 abbrev μ-loop : tie.MeasureT-loop
 μ-loop draws neighbours needs₀ bus₀ needs bus = most - bus
 
--- a need is at most one above the degree
-low : (c : tie.After-needs Inv-loop μ-loop) → let s = c .before .before .before .before .before in getD (s .args .draws .now) (c .before .before .before .before .loop .bus) 0 % (c .before .size .result + 1) < c .before .size .result + 1
-low c = mod-lt _ (omega arith)
+-- a need is at most the highest that can be met
+low : (c : tie.After-highest Inv-loop μ-loop) → getD (c .before .before .before .before .before .args .draws .now) (c .before .before .before .before .loop .bus) 0 % c .highest .result < c .highest .result
+low c = mod-lt _ (c .highest .ensures .0)
 
-add-needs-2 : tie.Need-add-needs-2 Inv-loop μ-loop
-add-needs-2 c = omega (arith, low c)
+add-needs : tie.Need-add-needs Inv-loop μ-loop
+add-needs c = omega (arith, low c)
 
-cast-needs : tie.Need-cast-needs Inv-loop μ-loop
-cast-needs c = omega (arith, low c)
+cast-needs-2 : tie.Need-cast-needs-2 Inv-loop μ-loop
+cast-needs-2 c = omega (arith, low c)
 
 pub needs-spec : {M : Type 1} → statement M
 needs-spec =
@@ -33,14 +33,13 @@ needs-spec =
     (λ c. search needs)
     (λ c. search needs)
     (λ c. search needs)
+    (λ c. search needs)
+    (λ c. search needs)
     (λ c κs. search needs)
     (λ c. search needs)
     (λ c. search needs)
-    (λ c. search needs)
-    (λ c. search needs)
-    (λ c. search needs)
-    add-needs-2
-    cast-needs
+    add-needs
+    cast-needs-2
     (λ c. search needs)
     (λ c. search needs)
     (λ c. search needs)
