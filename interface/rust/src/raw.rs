@@ -133,6 +133,11 @@ mod tests {
         let mut turned = PATH;
         turned[13] = 0;
         assert_eq!(read(&turned, &mut table), (15, A, B));
+        // need 3 at bus 1
+        let mut needing = PATH;
+        needing[3] = 3;
+        assert_eq!(read(&needing, &mut table), (17, A, B));
+        assert_eq!(read(&needing, &mut []), (17, A, B));
         let mut repeat = PATH;
         repeat.copy_within(7..11, 11);
         assert_eq!(read(&repeat, &mut table[..9]), (10, A, B));
