@@ -1,4 +1,5 @@
 // The test of a line table: whether a slice holds a network. Row starts begin at `from`.
+ghost use mathlib.Core.Bool.{_&&_};
 ghost use mathlib.Core.Path.{_≡_};
 ghost use Prim.Native.Nat.{_+_, _-_, _^_, _≤_, _<_};
 ghost use lib.ListN.{length};
@@ -35,20 +36,6 @@ fn complete(table: &[u16], from: usize) -> bool
     from + n + 1 + entry(table, from + n) <= table.len()
 }
 
-// Whether every need is one that a bus may have.
-fn needs_in_range(needs: &[u16]) -> bool
-    ensures { λ b. ⌜ b ≡ needsInRange (now (needs .entry)) ⌝ }
-{
-    let mut bus = 0;
-    while bus < needs.len() {
-        if !within(1, Network::NEED, entry(needs, bus)) {
-            return false;
-        }
-        bus += 1;
-    }
-    true
-}
-
 // Whether the rows are sound, and every neighbour is mirrored.
 fn two_way(table: &[u16], from: usize) -> bool
     requires { ⌜ Complete from (now table) ⌝ }
@@ -63,15 +50,19 @@ fn two_way(table: &[u16], from: usize) -> bool
     mirrored(starts, numbers, n)
 }
 
-// Whether each bus can meet its need. Its degree is how far its row start is from the next.
-fn needs_can_be_met(needs: &[u16], starts: &[u16]) -> bool
+// Whether every need is one that a bus may have, and can be met: the degree of a bus is how far its row start is from the next.
+fn valid_needs(needs: &[u16], starts: &[u16]) -> bool
     requires { ⌜ (length (now needs) < length (now starts)) × Steps (length (now needs)) (now starts) ⌝ }
-    ensures { λ b. ⌜ b ≡ needsCanBeMet (length (now (needs .entry))) (now (needs .entry)) (λ i. at (now (starts .entry)) (i + 1) - at (now (starts .entry)) i) ⌝ }
+    ensures { λ b. ⌜ b ≡ (needsInRange (now (needs .entry)) && needsCanBeMet (length (now (needs .entry))) (now (needs .entry)) (λ i. at (now (starts .entry)) (i + 1) - at (now (starts .entry)) i)) ⌝ }
 {
     let mut bus = 0;
     while bus < needs.len() {
+        let need = entry(needs, bus);
+        if !within(1, Network::NEED, need) {
+            return false;
+        }
         let degree = entry(starts, bus + 1) - entry(starts, bus);
-        if !can_be_met(entry(needs, bus), degree) {
+        if !can_be_met(need, degree) {
             return false;
         }
         bus += 1;
@@ -90,12 +81,8 @@ pub fn holds(table: &[u16]) -> bool
     if !complete(table, from) {
         return false;
     }
-    let needs = needs(table);
-    if !needs_in_range(needs) {
-        return false;
-    }
     if !two_way(table, from) {
         return false;
     }
-    needs_can_be_met(needs, starts(table, from))
+    valid_needs(needs(table), starts(table, from))
 }

@@ -1,5 +1,5 @@
 -- Each test of a table passes exactly where its facts hold: `…-facts` and `…-test`. `holds-facts` and `holds-test` are the two together.
-use mathlib.Core.Bool.{Bool, true, false, not, _&&_}
+use mathlib.Core.Bool.{Bool, true, false, not, _&&_, and-true}
 use mathlib.Core.List.{List}
 use mathlib.Core.Path.{_≡_, sym, ap, _∙_}
 use Prim.Native.Nat.{ℕ, _+_, _-_, _≤_, _<_}
@@ -225,9 +225,9 @@ module _ (t : List ℕ) where
     pub steps-read : (length q < length s) × Steps (length q) s
     steps-read = rw (counted, es, eh) (sound .spans .long, sound .spans .steps)
 
-    -- b is the test whether needs can be met
-    pub holds-read : {b : Bool} → needsInRange q ≡ true → b ≡ needsCanBeMet (length q) q (λ i. at s (i + 1) - at s i) → b ≡ holds t
+    -- b is the test of the needs
+    pub holds-read : {b : Bool} → b ≡ (needsInRange q && needsCanBeMet (length q) q (λ i. at s (i + 1) - at s i)) → b ≡ holds t
     unfolding holds row
-    holds-read f m =
-        rw (rw eh at c, rw eq at f, rw eh at r)
-        (rw (counted, eq, es, eh) at m ∙ met-same (busCount t) (needs t) (λ i b. sym (row-length _ _ _ (sound .spans) i b)))
+    holds-read m =
+        rw (rw eh at c, rw eh at r, and-true (needsInRange (needs t)))
+        (rw (counted, eq, es, eh) at m ∙ ap (λ x. needsInRange (needs t) && x) (met-same (busCount t) (needs t) (λ i b. sym (row-length _ _ _ (sound .spans) i b))))
