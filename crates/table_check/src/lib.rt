@@ -1,9 +1,9 @@
 // The test of a line table: whether a slice holds a network. Row starts begin at `from`.
 ghost use mathlib.Core.Bool.{_&&_};
 ghost use mathlib.Core.Path.{_≡_};
-ghost use Prim.Native.Nat.{_+_, _-_, _^_, _≤_, _<_};
+ghost use Prim.Native.Nat.{_^_, _≤_, _<_};
 ghost use lib.ListN.{length};
-ghost use Rattle.lists.specs.Lists.{at};
+ghost use Rattle.table_spec.specs.Layout.{rowSize};
 ghost use Rattle.table_spec.specs.Holds.{complete, needsInRange, twoWay, needsCanBeMet, holds, Complete, Steps};
 
 pub mod mirrors;
@@ -53,7 +53,7 @@ fn two_way(table: &[u16], from: usize) -> bool
 // Whether every need is one that a bus may have, and can be met: the degree of a bus is how far its row start is from the next.
 fn valid_needs(needs: &[u16], starts: &[u16]) -> bool
     requires { ⌜ (length (now needs) < length (now starts)) × Steps (length (now needs)) (now starts) ⌝ }
-    ensures { λ b. ⌜ b ≡ (needsInRange (now (needs .entry)) && needsCanBeMet (length (now (needs .entry))) (now (needs .entry)) (λ i. at (now (starts .entry)) (i + 1) - at (now (starts .entry)) i)) ⌝ }
+    ensures { λ b. ⌜ b ≡ (needsInRange (now (needs .entry)) && needsCanBeMet (length (now (needs .entry))) (now (needs .entry)) (rowSize (now (starts .entry)))) ⌝ }
 {
     let mut bus = 0;
     while bus < needs.len() {

@@ -2,7 +2,7 @@
 use mathlib.Core.Bool.{Bool, true, false, not, _&&_, and-true}
 use mathlib.Core.List.{List}
 use mathlib.Core.Path.{_≡_, sym, ap, _∙_}
-use Prim.Native.Nat.{ℕ, _+_, _-_, _≤_, _<_}
+use Prim.Native.Nat.{ℕ, _+_, _≤_, _<_}
 use native.Mathlib.Omega.{arith}
 use borrow.Author.Tests.{leb-true, ltb-true, eqb-true, eqb-false, not-true, le-leb, lt-ltb, eq-eqb, ne-eqb}
 use lib.Dec.{leb, ltb, eqb}
@@ -12,7 +12,7 @@ use Rattle.lists.specs.Below.{allBelow}
 use Rattle.lists.specs.Tests.{and-both, and-left, and-right, and-fails-left}
 use Rattle.lists.specs.Loops.{allBelow-at, allBelow-by, allBelow-same}
 use Rattle.table_spec.specs.Limits.{maxBuses, maxDegree, maxNeed}
-use Rattle.table_spec.specs.Layout.{rowAt, busCount, needs, starts, entries, neighbourNumbers, startsAt, row}
+use Rattle.table_spec.specs.Layout.{rowAt, rowSize, busCount, needs, starts, entries, neighbourNumbers, startsAt, row}
 use Rattle.table_spec.specs.Rows.{row-length, last-read, length-needs, room}
 use Rattle.table_spec.specs.Holds.{within, agree, complete, needsInRange, neverFall, shortRows, validEntry, validRow, validRows, soundRows, mirrored, twoWay, canBeMet, needsCanBeMet, holds, Complete, NeedsInRange, Steps, ValidRow, SoundRows, Mirrored, Holds}
 
@@ -226,7 +226,7 @@ module _ (t : List ℕ) where
     steps-read = rw (counted, es, eh) (sound .spans .long, sound .spans .steps)
 
     -- b is the test of the needs
-    pub holds-read : {b : Bool} → b ≡ (needsInRange q && needsCanBeMet (length q) q (λ i. at s (i + 1) - at s i)) → b ≡ holds t
+    pub holds-read : {b : Bool} → b ≡ (needsInRange q && needsCanBeMet (length q) q (rowSize s)) → b ≡ holds t
     unfolding holds row
     holds-read m =
         rw (rw eh at c, rw eh at r, and-true (needsInRange (needs t)))

@@ -2,7 +2,7 @@
 -- between needs and row starts moves one definition.
 -- Definitions only.
 use mathlib.Core.List.{List, _∷_, _++_}
-use Prim.Native.Nat.{ℕ, _+_, _*_}
+use Prim.Native.Nat.{ℕ, _+_, _-_, _*_}
 use lib.ListN.{length}
 use Rattle.lists.specs.Lists.{has, at, part}
 use Rattle.lists.specs.Below.{sumBelow, countBelow, joinBelow, mapBelow}
@@ -12,6 +12,10 @@ use Rattle.lists.specs.Below.{sumBelow, countBelow, joinBelow, mapBelow}
 -- row i runs from start i up to, not including, start i + 1
 unfoldable pub rowAt : List ℕ → List ℕ → ℕ → List ℕ
 rowAt s l i = part (at s i) (at s (i + 1)) l
+
+-- so it has so many numbers
+abbrev pub rowSize : List ℕ → ℕ → ℕ
+rowSize s i = at s (i + 1) - at s i
 
 -- the other way round: the starts of n rows, and the rows
 unfoldable pub laid : ℕ → (ℕ → List ℕ) → List ℕ

@@ -2,25 +2,21 @@
 use borrow.Author.Needs.{needs}
 use native.Mathlib.Omega.{arith}
 use mathlib.Core.Bool.{true}
-use mathlib.Core.List.{List}
 use mathlib.Core.Path.{_≡_, sym, ap, ap₂, _∙_}
-use Prim.Native.Nat.{ℕ, _+_, _-_, _≤_}
+use Prim.Native.Nat.{_-_, _≤_}
 use lib.ListN.{length}
 use Rattle.lists.specs.Lists.{at}
 use Rattle.lists.specs.Below.{allBelow}
 use Rattle.lists.specs.Tests.{fails, passed, failed, never-both, and-fails-left, and-both, and-right}
 use Rattle.lists.specs.Loops.{allBelow-start, allBelow-more, allBelow-fails, allBelow-done}
 use Rattle.table_spec.specs.Limits.{maxNeed}
+use Rattle.table_spec.specs.Layout.{rowSize}
 use Rattle.table_spec.specs.Holds.{within, needsInRange, canBeMet, needsCanBeMet}
 use Rattle.table_check.proofs.valid_needs.Statement.{statement}
 use Rattle.table_check.proofs.valid_needs.Tie as tie
 
--- the degrees that row starts s make
-abbrev degrees : List ℕ → ℕ → ℕ
-degrees s i = at s (i + 1) - at s i
-
 abbrev Inv-loop : tie.InvT-loop
-Inv-loop q s bus₀ bus = (bus ≤ length q) × (allBelow bus (λ i. within 1 maxNeed (at q i)) ≡ true) × (needsCanBeMet bus q (degrees s) ≡ true)
+Inv-loop q s bus₀ bus = (bus ≤ length q) × (allBelow bus (λ i. within 1 maxNeed (at q i)) ≡ true) × (needsCanBeMet bus q (rowSize s) ≡ true)
 
 abbrev μ-loop : tie.MeasureT-loop
 μ-loop q s bus₀ bus = length q - bus
@@ -42,7 +38,7 @@ sub-degree c =
     omega (arith, c .entry3 .ensures .0, c .before .entry2 .ensures .0, l .before .before .before .before .pre .1 _ (l .loop-test .taken))
 
 -- and the degree lies between two row starts
-met : (c : tie.After-can-be-met Inv-loop μ-loop) → let v = c .before .before .before .before .before .before .before in let a = v .before .before .before .args in c .can-be-met .result ≡ canBeMet (at (a .needs .now) (v .loop .bus)) (degrees (a .starts .now) (v .loop .bus))
+met : (c : tie.After-can-be-met Inv-loop μ-loop) → let v = c .before .before .before .before .before .before .before in let a = v .before .before .before .args in c .can-be-met .result ≡ canBeMet (at (a .needs .now) (v .loop .bus)) (rowSize (a .starts .now) (v .loop .bus))
 met c =
     let e = c .before .before in
     c .can-be-met .ensures ∙ ap₂ canBeMet (e .before .before .before .entry .ensures .0) (ap₂ _-_ (e .entry2 .ensures .0) (c .before .entry3 .ensures .0))
