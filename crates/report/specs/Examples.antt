@@ -18,19 +18,21 @@ use Rattle.file_spec.specs.Records.{joins, joined, neighbours, degreeTooHigh, r
 use Rattle.read_spec.specs.ReadOutcome.{fileTable}
 use Rattle.report.specs.Report.{printed}
 
-path : List ℕ
-path = 3 ∷ 0 ∷ 1 ∷ 1 ∷ 1 ∷ 2 ∷ 0 ∷ 0 ∷ 0 ∷ 1 ∷ 0 ∷ 1 ∷ 0 ∷ 2 ∷ 0 ∷ []
+-- Path, with need k at bus 1
+path : ℕ → List ℕ
+path k = 3 ∷ 0 ∷ 1 ∷ k ∷ 1 ∷ 2 ∷ 0 ∷ 0 ∷ 0 ∷ 1 ∷ 0 ∷ 1 ∷ 0 ∷ 2 ∷ 0 ∷ []
 
 -- the scope's four lines
 path-printed :
-    printed path
+    printed (path 1)
     ≡ 98 ∷ 117 ∷ 115 ∷ 101 ∷ 115 ∷ 32 ∷ 51 ∷ 32 ∷ 108 ∷ 105 ∷ 110 ∷ 101 ∷ 115 ∷ 32 ∷ 50 ∷ 32 ∷ 111 ∷ 118 ∷ 101 ∷ 114 ∷ 32 ∷ 54 ∷ 10 ∷ 48 ∷ 32 ∷ 49 ∷ 32 ∷ 49 ∷ 32 ∷ 53 ∷ 32 ∷ 53 ∷ 47 ∷ 54 ∷ 10 ∷ 49 ∷ 32 ∷ 49 ∷ 32 ∷ 50 ∷ 32 ∷ 56 ∷ 32 ∷ 52 ∷ 47 ∷ 51 ∷ 10 ∷ 50 ∷ 32 ∷ 49 ∷ 32 ∷ 49 ∷ 32 ∷ 53 ∷ 32 ∷ 53 ∷ 47 ∷ 54 ∷ 10 ∷ []
 unfolding needBytes records wordAt endsBefore goesOn within needsInRange allBelow anyBelow sumBelow soundEnds twoBuses outOfOrder turned falls pairBelow degreeTooHigh pairCount repeats joined joins path fileTable tableOf laid neighbours listBelow joinBelow mapBelow filled decimal numeratorOver ownTerm neighbourTerm divisorsOf largestDegree largestBelow lcmAll lcmOf gcdOf lines rowAt needs starts neighbourNumbers row at
 path-printed = refl
 
--- `refused 1` for an empty file, `refused 5` for Path with one byte more
+-- `refused 1` for an empty file, `refused 5` for Path with one byte more, `refused 17` for Path with a need that cannot be met
 refused :
     (printed [] ≡ 114 ∷ 101 ∷ 102 ∷ 117 ∷ 115 ∷ 101 ∷ 100 ∷ 32 ∷ 49 ∷ 10 ∷ [])
-    × (printed (path ++ (0 ∷ [])) ≡ 114 ∷ 101 ∷ 102 ∷ 117 ∷ 115 ∷ 101 ∷ 100 ∷ 32 ∷ 53 ∷ 10 ∷ [])
+    × (printed (path 1 ++ (0 ∷ [])) ≡ 114 ∷ 101 ∷ 102 ∷ 117 ∷ 115 ∷ 101 ∷ 100 ∷ 32 ∷ 53 ∷ 10 ∷ [])
+    × (printed (path 3) ≡ 114 ∷ 101 ∷ 102 ∷ 117 ∷ 115 ∷ 101 ∷ 100 ∷ 32 ∷ 49 ∷ 55 ∷ 10 ∷ [])
 unfolding needBytes records wordAt endsBefore goesOn within needsInRange allBelow anyBelow sumBelow soundEnds twoBuses outOfOrder turned falls pairBelow degreeTooHigh pairCount repeats joined joins path fileTable tableOf laid neighbours listBelow joinBelow mapBelow filled decimal numeratorOver ownTerm neighbourTerm divisorsOf largestDegree largestBelow lcmAll lcmOf gcdOf lines rowAt needs starts neighbourNumbers row at
-refused = (refl, refl)
+refused = (refl, refl, refl)

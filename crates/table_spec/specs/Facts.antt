@@ -164,22 +164,25 @@ module _ (from : ℕ) (t : List ℕ) {n : ℕ} {s l : List ℕ} (en : n ≡ busC
   unfolding twoWay
   two-way-read r m = rw (rw (en, es, el) at r) (rw (en, es, el) at m)
 
-pub two-way-test : (from : ℕ) (t : List ℕ) → SoundRows (busCount t) (starts from t) (neighbourNumbers from t)
-    → Mirrored (busCount t) (starts from t) (neighbourNumbers from t) → twoWay from t ≡ true
-unfolding twoWay
-two-way-test from t r m = and-both _ _ (rows-test _ _ _ r) (mirrored-test _ _ _ m)
+module _ (from : ℕ) (t : List ℕ) where
+  abbrev n : ℕ
+  n = busCount t
 
-module _ (from : ℕ) (t : List ℕ) (c : Complete from t) (w : twoWay from t ≡ true) where
-  abbrev rowsSound : Bool
-  rowsSound = soundRows (busCount t) (starts from t) (neighbourNumbers from t)
+  abbrev s : List ℕ
+  s = starts from t
 
-  pub two-way-rows : SoundRows (busCount t) (starts from t) (neighbourNumbers from t)
+  abbrev l : List ℕ
+  l = neighbourNumbers from t
+
+  pub two-way-facts : Complete from t → twoWay from t ≡ true → SoundRows n s l × Mirrored n s l
   unfolding twoWay
-  two-way-rows = let g = room from t c in rows-facts _ _ _ (g .0) (g .1) (and-left rowsSound _ w)
+  two-way-facts c w =
+      let g = room from t c in
+      (rows-facts n s l (g .0) (g .1) (and-left (soundRows n s l) _ w), mirrored-facts n s l (and-right (soundRows n s l) _ w))
 
-  pub two-way-mirrored : Mirrored (busCount t) (starts from t) (neighbourNumbers from t)
+  pub two-way-test : SoundRows n s l → Mirrored n s l → twoWay from t ≡ true
   unfolding twoWay
-  two-way-mirrored = mirrored-facts _ _ _ (and-right rowsSound _ w)
+  two-way-test r m = and-both _ _ (rows-test n s l r) (mirrored-test n s l m)
 
 -- ---- a network
 
@@ -196,11 +199,11 @@ module _ (t : List ℕ) where
       let w1 = and-left (complete from t && needsInRange (needs t)) _ w2 in
       let c = complete-facts from t (and-left (complete from t) _ w1) in
       let f = needs-facts (needs t) (and-right (complete from t) _ w1) in
-      let r = and-right (complete from t && needsInRange (needs t)) _ w2 in
+      let r = two-way-facts from t c (and-right (complete from t && needsInRange (needs t)) _ w2) in
       let long = length-needs t c in
       record {
-        shape = record { complete = c; needed = λ i b. f i (omega arith) .0; rows = two-way-rows from t c r };
-        mirrored = two-way-mirrored from t c r;
+        shape = record { complete = c; needed = λ i b. f i (omega arith) .0; rows = r .0 };
+        mirrored = r .1;
         limited = λ i b. f i (omega arith) .1;
         met = λ i b. allBelow-at _ (busCount t) (and-right (complete from t && needsInRange (needs t) && twoWay from t) _ w) b;
       }
@@ -217,7 +220,7 @@ module _ (t : List ℕ) where
     whole = rw eh at (complete-facts from t c)
 
     sound : SoundRows (busCount t) (starts (startsAt t) t) (neighbourNumbers (startsAt t) t)
-    sound = two-way-rows (startsAt t) t whole (rw eh at r)
+    sound = two-way-facts (startsAt t) t whole (rw eh at r) .0
 
     counted : length q ≡ busCount t
     counted = rw eq (length-needs t whole)
