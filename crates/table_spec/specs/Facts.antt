@@ -165,24 +165,18 @@ module _ (from : ℕ) (t : List ℕ) {n : ℕ} {s l : List ℕ} (en : n ≡ busC
   two-way-read r m = rw (rw (en, es, el) at r) (rw (en, es, el) at m)
 
 module _ (from : ℕ) (t : List ℕ) where
-  abbrev n : ℕ
-  n = busCount t
-
-  abbrev s : List ℕ
-  s = starts from t
-
-  abbrev l : List ℕ
-  l = neighbourNumbers from t
-
-  pub two-way-facts : Complete from t → twoWay from t ≡ true → SoundRows n s l × Mirrored n s l
+  pub two-way-facts : Complete from t → twoWay from t ≡ true
+      → SoundRows (busCount t) (starts from t) (neighbourNumbers from t) × Mirrored (busCount t) (starts from t) (neighbourNumbers from t)
   unfolding twoWay
   two-way-facts c w =
       let g = room from t c in
-      (rows-facts n s l (g .0) (g .1) (and-left (soundRows n s l) _ w), mirrored-facts n s l (and-right (soundRows n s l) _ w))
+      let sound = soundRows (busCount t) (starts from t) (neighbourNumbers from t) in
+      (rows-facts _ _ _ (g .0) (g .1) (and-left sound _ w), mirrored-facts _ _ _ (and-right sound _ w))
 
-  pub two-way-test : SoundRows n s l → Mirrored n s l → twoWay from t ≡ true
+  pub two-way-test : SoundRows (busCount t) (starts from t) (neighbourNumbers from t)
+      → Mirrored (busCount t) (starts from t) (neighbourNumbers from t) → twoWay from t ≡ true
   unfolding twoWay
-  two-way-test r m = and-both _ _ (rows-test n s l r) (mirrored-test n s l m)
+  two-way-test r m = and-both _ _ (rows-test _ _ _ r) (mirrored-test _ _ _ m)
 
 -- ---- a network
 

@@ -10,7 +10,7 @@ use lib.ListN.{length}
 use Rattle.lists.specs.Lists.{_∈_, at, part, Once}
 use Rattle.lists.specs.Places.{length-part, at-part, part-part, ascending-once, at-in}
 use Rattle.table_spec.specs.Limits.{maxDegree}
-use Rattle.table_spec.specs.Layout.{rowAt, busCount, needs, starts, last, entries, neighbourNumbers, startsAt, row, rowStart, degree}
+use Rattle.table_spec.specs.Layout.{rowAt, rowSize, busCount, needs, starts, last, entries, neighbourNumbers, startsAt, row, rowStart, degree}
 use Rattle.table_spec.specs.Holds.{Complete, Spans, ValidRow, Scorable}
 
 -- a row between the starts a and e, as code reads it
@@ -30,7 +30,7 @@ module _ (n : ℕ) (s l : List ℕ) (w : Spans n s l) where
   pub row-lies : (i : ℕ) → i < n → (i + 1 < length s) × (at s i ≤ at s (i + 1)) × (at s (i + 1) ≤ length l)
   row-lies i b = (omega (arith, w .long), w .steps i b .0, le-trans (rises (i + 1) n (omega arith) (le-refl n)) (w .ends))
 
-  pub row-length : (i : ℕ) → i < n → length (rowAt s l i) ≡ at s (i + 1) - at s i
+  pub row-length : (i : ℕ) → i < n → length (rowAt s l i) ≡ rowSize s i
   unfolding rowAt
   row-length i b = length-part (at s i) (at s (i + 1)) l (row-lies i b .2)
 

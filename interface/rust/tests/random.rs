@@ -46,12 +46,12 @@ struct Tallies {
     whole: Tally,
     /// Buses, each time that a table is scored: the need is above the degree, as it is without
     /// lines, equal to it, 1, or between them.
-    terms: [usize; 4],
+    cases: [usize; 4],
 }
 
 impl Tallies {
     /// Counts the buses of a table that holds a network.
-    fn count_terms(&mut self, table: &[u16]) {
+    fn count_cases(&mut self, table: &[u16]) {
         let (needs, starts) = table[1..].split_at(table[0].into());
         for (&need, start) in needs.iter().zip(starts.windows(2)) {
             let degree = start[1] - start[0];
@@ -61,13 +61,13 @@ impl Tallies {
                 1 => 2,
                 _ => 3,
             };
-            self.terms[case] += 1;
+            self.cases[case] += 1;
         }
     }
 
     fn show_table_calls(&self) {
-        println!("terms: {:?}", self.terms);
-        assert!(self.terms.iter().all(|&times| times >= 100_000), "terms: {:?}", self.terms);
+        println!("cases: {:?}", self.cases);
+        assert!(self.cases.iter().all(|&times| times >= 100_000), "cases: {:?}", self.cases);
         self.write.shows("write", &[11, 16]);
         self.degree.shows("degree", &[11, 13]);
         self.row.shows("row", &[11, 13]);
@@ -387,7 +387,7 @@ fn call_all(table: &[u16], random: &mut Random, tallies: &mut Tallies) {
         let (answer, numerators) = alike(&marks(length), 0xA5A5, library, plain);
         tallies.shares.count(&answer);
         if let Ok(over) = answer {
-            tallies.count_terms(table);
+            tallies.count_cases(table);
             assert_eq!(numerators[..n].iter().sum::<u64>(), n as u64 * over);
         }
     }
