@@ -14,6 +14,7 @@ use Rattle.lists.specs.Tests.{split, never-both, or-none, eqb-self, eqb-comm}
 use Rattle.lists.specs.Loops.{last-or, anyBelow-none, anyBelow-fails}
 use Rattle.lists.specs.ListBelow.{listBelow-same, listBelow-more}
 use Rattle.table_spec.specs.Limits.{maxBuses, maxLines}
+use Rattle.table_spec.specs.Lines.{pairNumber}
 use Rattle.file_spec.specs.FileBytes.{firstEnd, secondEnd}
 use Rattle.file_spec.specs.SoundSections.{SoundEnds}
 use Rattle.file_spec.specs.RecordOrder.{turned, pairBelow, falls, outOfOrder}
@@ -24,10 +25,6 @@ use Rattle.file_spec.specs.RecordPairs.{joined-at, joined-by, neighbours
 pub repeats-by : (r : List ℕ) (i k : ℕ) → i < k → firstEnd r i ≡ firstEnd r k → secondEnd r i ≡ secondEnd r k → repeats r k ≡ true
 unfolding repeats
 repeats-by r i k l e f = joined-by k r (firstEnd r k) (secondEnd r k) i l e f
-
--- a pair of buses as one number: pairs ascend by first bus, then by second, as these numbers do
-abbrev pub pairNumber : ℕ → ℕ → ℕ
-pairNumber a b = a * maxBuses + b
 
 -- a pair is not below another just where its number is no less
 pair-facts : (a b c d : ℕ) → d < maxBuses → pairBelow a b c d ≡ false → pairNumber c d ≤ pairNumber a b

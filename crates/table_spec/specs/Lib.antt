@@ -1,6 +1,7 @@
 -- Line tables: definitions, computed examples, then laws.
 pub mod Limits
 pub mod Layout
+pub mod Lines
 pub mod Holds
 pub mod TableOutcomes
 pub mod Examples
@@ -9,6 +10,7 @@ pub mod Facts
 pub mod TableCauses
 pub mod RowPlaces
 pub mod LineCount
+pub mod LinePairs
 pub mod BeyondTable
 pub mod Laid
 pub mod LaidAgain

@@ -20,19 +20,20 @@ use Rattle.refusals.specs.Outcomes.{gives}
 use Rattle.table_spec.specs.Limits.{maxBuses}
 use Rattle.table_spec.specs.Layout.{busCount, row, lines}
 use Rattle.table_spec.specs.Facts.{holds-test}
+use Rattle.table_spec.specs.Lines.{pairNumber, isPair, pairs, lowerBus, upperBus}
 use Rattle.network.specs.declared.Counts.{Counts}
 use Rattle.file_spec.specs.FileBytes.{fileBusCount, needBytes, fileLineCount, recordsAt, fileEnd, records, firstEnd, secondEnd}
 use Rattle.file_spec.specs.SoundSections.{length-records, ends-facts}
 use Rattle.file_spec.specs.Records.{repeats, pairCount}
 use Rattle.file_spec.specs.RecordPairs.{joined-at, joined-by}
-use Rattle.file_spec.specs.OrderedRecords.{pairNumber, OrderedRecords, lower-first, rank-rises}
+use Rattle.file_spec.specs.OrderedRecords.{OrderedRecords, lower-first, rank-rises}
 use Rattle.read_spec.specs.ReadOutcome.{readOutcome, tableAfter, AsRecorded}
 use Rattle.read_spec.specs.ReadDecides.{whole, sound-ends, in-order}
 use Rattle.read_spec.specs.Recorded.{recorded}
 use Rattle.write_spec.specs.FileOf.{word, recordOf, pairRecords, fileOf}
 use Rattle.write_spec.specs.RoundTrip.{AreBytes, NoParallels, GivenBack}
 use Rattle.write_spec.specs.WrittenBytes.{listed, records-listed, sections-again}
-use Rattle.write_spec.specs.PairLaws.{isPair, pairs, lowerBus, upperBus, records-pairs}
+use Rattle.write_spec.specs.PairLaws.{records-pairs}
 use Rattle.write_spec.specs.WriteDue.{fitting}
 
 -- a part of bytes

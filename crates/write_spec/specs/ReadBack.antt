@@ -21,7 +21,9 @@ use Rattle.table_spec.specs.Layout.{busCount, needs, entries, startsAt, row, li
 use Rattle.table_spec.specs.Holds.{Holds}
 use Rattle.table_spec.specs.Rows.{valid-below, valid-others, length-needs, row-valid, degree-le}
 use Rattle.table_spec.specs.Facts.{needs-test, holds-facts, holds-needs}
+use Rattle.table_spec.specs.Lines.{lowerBus, upperBus}
 use Rattle.table_spec.specs.LineCount.{length-rows, lines-le, entries-all}
+use Rattle.table_spec.specs.LinePairs.{pairs-in, in-pairs, pairs-ascend, mirror, neighbour-below, length-pairs}
 use Rattle.table_spec.specs.Laid.{laid-same}
 use Rattle.table_spec.specs.LaidAgain.{made-again}
 use Rattle.file_spec.specs.FileBytes.{fileBusCount, needBytes, fileLineCount, records, firstEnd, secondEnd}
@@ -38,7 +40,7 @@ use Rattle.write_spec.specs.WriteOutcome.{writeOutcome, bytesAfter}
 use Rattle.write_spec.specs.RoundTrip.{ReadBack}
 use Rattle.write_spec.specs.WrittenBytes.{first-written, second-written, buses-written, needs-written, lines-written, records-written}
 use Rattle.write_spec.specs.WriteDue.{accepted-holds, accepted-fits, accepted-bytes, fitting}
-use Rattle.write_spec.specs.PairLaws.{lowerBus, upperBus, pairs-in, in-pairs, pairs-ascend, mirror, neighbour-below, length-pairs, records-pairs, length-pairRecords, length-fileOf}
+use Rattle.write_spec.specs.PairLaws.{records-pairs, length-pairRecords, length-fileOf}
 
 -- ---- what the records of a network's file say
 
