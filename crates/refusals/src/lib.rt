@@ -35,6 +35,8 @@ pub enum Refusal {
     BytesTooShort,
     // A need exceeds its bus's degree, apart from need 1 at a bus without lines.
     NeedAboveDegree,
+    // The network does not have the line.
+    NoSuchLine,
 }
 
 // How many bytes a call wrote at the front of those lent, or why none.
@@ -65,6 +67,7 @@ impl Refusal {
             Refusal::OutOfOrder => 15,
             Refusal::BytesTooShort => 16,
             Refusal::NeedAboveDegree => 17,
+            Refusal::NoSuchLine => 18,
         }
     }
 }
