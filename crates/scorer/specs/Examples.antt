@@ -13,9 +13,9 @@ use Rattle.table_spec.specs.Holds.{within, complete, needsInRange, neverFall, s
 use Rattle.table_spec.specs.Examples.{path}
 use Rattle.share_spec.specs.TableNetwork.{gameOf, largestDegree, divisorsOf}
 use Rattle.share_spec.specs.Formula.{numeratorOver}
+use Rattle.share_spec.specs.TermsGiven.{termTo}
 use Rattle.two_way.specs.TwoWay.{networkOf}
 use Rattle.share_spec.specs.ShareOutcomes.{sharesOutcome, storedNumerators, numeratorsAfter, shareOutcome}
-use Rattle.scorer.specs.ScorerWork.{termTo}
 
 -- over 6: bus 0 of Path keeps 3 and gives 3 to bus 1, which keeps 2, 4 or 6 by its need and gives the rest to both ends
 given :

@@ -7,6 +7,7 @@ pub mod Examples
 pub mod Denominator
 pub mod TermBounds
 pub mod FairFormula
+pub mod TermsGiven
 pub mod NetworkIslands
 pub mod TableGame
 pub mod ShareClaims

@@ -1,7 +1,8 @@
 -- A table that can be scored plays a game on its buses, and its L makes all terms whole and is never above 5,354,228,880.
 use mathlib.Core.List.{List}
 use mathlib.Core.Path.{_≡_}
-use Prim.Native.Nat.{ℕ, _+_, _≤_, _<_, _∣_}
+use Prim.Native.Nat.{ℕ, _+_, _*_, _≤_, _<_, _∣_}
+use native.Mathlib.Nat.{le-refl}
 use native.Mathlib.Omega.{arith}
 use Rattle.lists.specs.Lists.{_∈_}
 use Rattle.lists.specs.Below.{range}
@@ -44,17 +45,14 @@ module _ {t : List ℕ} (w : Scorable t) where
   unfolding divisorsOf
   divides k a b = lcmAll-multiple _ k (up-to (1 + largestDegree t) k a b)
 
-  -- d(d+1) divides L, since d and d + 1 share no factor
-  pub own-over : {L : ℕ} → L ≡ lcmAll (divisorsOf t) → Over t L
+  -- d(d+1) divides L for each d above 0 up to the degree of a bus, since d and d + 1 share no factor
+  pub fewer-divided : (d u : ℕ) → u < busCount t → 0 < d → d ≤ degree t u → d * (d + 1) ∣ lcmAll (divisorsOf t)
   unfolding largestDegree
-  own-over e =
-      rw e
-      record {
-        divided = λ u b p.
-            let h = largestBelow-at (degree t) (busCount t) b in
-            next-product (degree t u) _ (divides (degree t u) (omega arith) (omega arith)) (divides (degree t u + 1) (omega arith) (omega arith));
-        bounded = multiple-le (divisorsOf t) bounded;
-      }
+  fewer-divided d u b p l =
+      let h = largestBelow-at (degree t) (busCount t) b in next-product d _ (divides d (omega arith) (omega arith)) (divides (d + 1) (omega arith) (omega arith))
+
+  pub own-over : {L : ℕ} → L ≡ lcmAll (divisorsOf t) → Over t L
+  own-over e = rw e record { divided = λ u b p. fewer-divided (degree t u) u b p (le-refl _); bounded = multiple-le (divisorsOf t) bounded }
 
   -- where d(d+1) divides L for each degree d, L makes every term whole
   module _ {L : ℕ} (o : Over t L) where

@@ -27,6 +27,10 @@ added-entry t k c h =
           (λ e. rw e (omega arith));
     }
 
+-- what was added, by another name
+pub added-same : {f g : ℕ → ℕ} {t u : List ℕ} → Added f t u → ((x : ℕ) → g x ≡ f x) → Added g t u
+added-same a e = record { long = a .long; each = λ x. omega (arith, a .each x, e x) }
+
 -- one addition after another: h is both together
 pub added-both : {f g h : ℕ → ℕ} {t u v : List ℕ} → Added f t u → Added g u v → ((x : ℕ) → h x ≡ f x + g x) → Added h t v
 added-both a b e = record { long = b .long ∙ a .long; each = λ x. omega (arith, a .each x, b .each x, e x) }

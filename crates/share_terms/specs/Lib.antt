@@ -6,3 +6,4 @@ pub mod Examples
 pub mod CaseLaws
 pub mod TermUnits
 pub mod Adding
+pub mod RowTerms

@@ -12,7 +12,7 @@ use Rattle.lists.specs.Loops.{joinBelow-next}
 use Rattle.lists.specs.JoinBelow.{length-mapBelow, mapBelow-at, joinBelow-at, mapBelow-same, joinBelow-same}
 use Rattle.table_spec.specs.Limits.{maxBuses, maxDegree}
 use Rattle.table_spec.specs.Layout.{rowAt, laid, busCount, needs, starts, last, entries, neighbourNumbers, startsAt, row, tableOf}
-use Rattle.table_spec.specs.Holds.{canBeMet, NeedsInRange, ValidRow, SoundRows, Holds}
+use Rattle.table_spec.specs.Holds.{canBeMet, NeedsInRange, ValidRow, SoundRows, Mirrored, Scorable, Holds}
 use Rattle.table_spec.specs.TableOutcomes.{SameNetwork}
 use Rattle.table_spec.specs.BeyondTable.{beyond}
 
@@ -122,19 +122,31 @@ module _ (n : ℕ) (q : List ℕ) (rows : ℕ → List ℕ) (rest : List ℕ) (l
   unfolding row
   made-row i b = rows-back n rows (n ∷ q) rest shape begin made-busCount i b
 
-  -- rows that a network may have make one
+  -- rows that a network may have make a table that can be scored
+  pub made-scorable : 1 ≤ n → n ≤ maxBuses → ((i : ℕ) → i < n → 1 ≤ at q i) → ((i : ℕ) → i < n → ValidRow n i (rows i)) → ((i : ℕ) → i < n → length (rows i) ≤ maxDegree)
+      → Scorable made
+  unfolding tableOf at
+  made-scorable least most needed valid short =
+      record {
+        complete = record { least = least; most = most; whole = omega (arith, made-last, length-tableOf n q rows long, length-append (tableOf n q rows) rest) };
+        needed = λ i b. rw made-needs (needed i b);
+        rows = rows-sound n rows (n ∷ q) rest shape begin made-busCount valid short;
+      }
+
+  -- and mirrored rows a mirrored one
+  pub made-mirrored : ((i j : ℕ) → i < n → j < n → has j (rows i) ≡ has i (rows j)) → Mirrored (busCount made) (starts (startsAt made) made) (neighbourNumbers (startsAt made) made)
+  unfolding tableOf row at
+  made-mirrored mirror i j b c = ap (has j) (made-row i b) ∙ mirror i j b c ∙ sym (ap (has i) (made-row j c))
+
+  -- and if needs keep their limits and can be met, it is a network's
   pub made-holds : 1 ≤ n → n ≤ maxBuses → NeedsInRange q → ((i : ℕ) → i < n → ValidRow n i (rows i)) → ((i : ℕ) → i < n → length (rows i) ≤ maxDegree)
       → ((i j : ℕ) → i < n → j < n → has j (rows i) ≡ has i (rows j)) → ((i : ℕ) → i < n → canBeMet (at q i) (length (rows i)) ≡ true) → Holds made
-  unfolding tableOf row at
+  unfolding tableOf at
   made-holds least most in-range valid short mirror met =
       record {
-        shape = record {
-          complete = record { least = least; most = most; whole = omega (arith, made-last, length-tableOf n q rows long, length-append (tableOf n q rows) rest) };
-          needed = λ i b. rw made-needs (in-range i (omega (arith, made-busCount)) .0);
-          rows = rows-sound n rows (n ∷ q) rest shape begin made-busCount valid short;
-        };
-        mirrored = λ i j b c. ap (has j) (made-row i b) ∙ mirror i j b c ∙ sym (ap (has i) (made-row j c));
-        limited = λ i b. rw made-needs (in-range i (omega (arith, made-busCount)) .1);
+        shape = made-scorable least most (λ i b. in-range i (omega (arith, long)) .0) valid short;
+        mirrored = made-mirrored mirror;
+        limited = λ i b. rw made-needs (in-range i (omega (arith, long)) .1);
         met = λ i b. rw (made-needs, made-row i b) (met i b);
       }
 

@@ -13,7 +13,7 @@ use Rattle.share_terms.specs.Unit.{unit}
 use Rattle.share_terms.specs.TermUnits.{term-asks, term-read}
 use Rattle.scorer.specs.ScorerWork.{degrees}
 use Rattle.scorer.proofs.Summing.{rest-fits}
-use Rattle.scorer.proofs.Scoring.{row-room, terms-added}
+use Rattle.scorer.proofs.Scoring.{terms-room, all-terms}
 use Rattle.scorer.proofs.add_terms.Statement.{statement}
 use Rattle.scorer.proofs.add_terms.Tie as tie
 
@@ -74,7 +74,7 @@ give-requires c κs =
     let p = c .before .before in
     let n = p .before .before in
     let s = start n in
-    row-room (s .pre .0 .0) (s .pre .0 .2) (s .pre .0 .1) (n .before .neighbours .ensures) (gives p) (s .args .numerators .now) (s .pre .1 .1)
+    terms-room (s .pre .0 .0) (s .pre .0 .2) (s .pre .0 .1) (n .before .neighbours .ensures) (gives p) (s .args .numerators .now) (s .pre .1 .1)
 
 same-length : tie.Need-same-length
 same-length c =
@@ -88,7 +88,7 @@ returns c =
     let p = g .before .before .before in
     let n = p .before .before in
     let s = start n in
-    terms-added (s .pre .0 .0) (s .pre .0 .2) (s .pre .0 .1) (n .before .neighbours .ensures) (gives p) (s .args .numerators .now) (s .pre .1 .1) (g .give .ensures)
+    all-terms (s .pre .0 .0) (s .pre .0 .2) (s .pre .0 .1) (n .before .neighbours .ensures) (gives p) (s .args .numerators .now) (s .pre .1 .1) (g .give .ensures)
 
 pub add-terms-spec : {M : Type 1} → statement M
 add-terms-spec =

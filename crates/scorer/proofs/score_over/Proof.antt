@@ -6,9 +6,10 @@ use Prim.Native.Nat.{_-_, _≤_}
 use lib.ListN.{length}
 use Rattle.lists.specs.Below.{sumBelow}
 use Rattle.share_spec.specs.TableNetwork.{gameOf}
+use Rattle.share_spec.specs.TermsGiven.{givenBy}
 use Rattle.share_terms.specs.Added.{Added}
 use Rattle.share_terms.specs.Adding.{added-none, cleared-long}
-use Rattle.scorer.proofs.Scoring.{givenBy, bus-added, bus-room, all-added}
+use Rattle.scorer.proofs.Scoring.{bus-added, bus-room, all-added}
 use Rattle.scorer.proofs.score_over.Statement.{statement}
 use Rattle.scorer.proofs.score_over.Tie as tie
 
