@@ -21,6 +21,7 @@ pub mod Tests
 pub mod Sums
 pub mod Counts
 pub mod Places
+pub mod Without
 pub mod Loops
 pub mod SumsBelow
 pub mod JoinBelow

@@ -1,5 +1,5 @@
 -- Laws of sums, counts and the largest value over the numbers below a bound.
-use mathlib.Core.Bool.{Bool, true, _&&_}
+use mathlib.Core.Bool.{Bool, true, cond, _&&_}
 use mathlib.Core.List.{List, [], _∷_}
 use mathlib.Core.Logic.{⊎-elim}
 use mathlib.Core.Path.{_≡_, refl, sym, ap, ap₂, _∙_, fun-ext}
@@ -8,10 +8,10 @@ use native.Mathlib.Nat.{not-suc-le-zero, le-refl, le-trans, le-of-suc-le-suc, eq
 use native.Mathlib.Omega.{arith}
 use lib.Dec.{eqb, ltb}
 use lib.ListN.{length}
-use borrow.Author.Tests.{eqb-true, eqb-false, ltb-true, ltb-false, lt-ltb, le-ltb}
+use borrow.Author.Tests.{eqb-true, eqb-false, ne-eqb, ltb-true, ltb-false, lt-ltb, le-ltb}
 use Rattle.lists.specs.Lists.{indicator, sumBy, count, _∈_, has, Once}
 use Rattle.lists.specs.Below.{sumBelow, countBelow, largestBelow, joinBelow, mapBelow, range}
-use Rattle.lists.specs.Tests.{split, passes}
+use Rattle.lists.specs.Tests.{split, passes, eqb-self}
 use Rattle.lists.specs.Sums.{indicator-le, sumBy-append, sumBy-add, sumBy-ones}
 use Rattle.lists.specs.Counts.{count-append, sumBy-cong-in, sumBy-single, sumBy-part}
 use Rattle.lists.specs.Loops.{last-or, sumBelow-next}
@@ -154,3 +154,29 @@ pub largestBelow-le : (f : ℕ → ℕ) (m n : ℕ) → ((i : ℕ) → i < n →
 unfolding largestBelow
 largestBelow-le f m zero h = zero-le
 largestBelow-le f m (suc n) h = max-le (largestBelow-le f m n (λ i l. h i (omega arith))) (h n (omega arith))
+
+-- ---- two sums that differ in few places
+
+-- in one
+sumBelow-but-one : (f g : ℕ → ℕ) (n a : ℕ) → a < n → ((u : ℕ) → u < n → (u ≡ a → ⊥) → f u ≡ g u) → sumBelow n f + g a ≡ sumBelow n g + f a
+unfolding sumBelow
+sumBelow-but-one f g zero a b h = absurd (omega arith)
+sumBelow-but-one f g (suc n) a b h =
+    split (eqb a n)
+    (λ e. let q = eqb-true a n e in omega (arith, sumBelow-same f g n (λ u l. h u (omega arith) (λ z. omega arith)), ap f q, ap g q))
+    (λ e. let d : a ≡ n → ⊥ = eqb-false a n e in omega (arith, sumBelow-but-one f g n a (omega (arith, d)) (λ u l. h u (omega arith)), h n (omega arith) (λ z. d (sym z))))
+
+-- in two
+pub sumBelow-but-two : (f g : ℕ → ℕ) (n a b : ℕ) → a < n → b < n → (a ≡ b → ⊥) → ((u : ℕ) → u < n → (u ≡ a → ⊥) → (u ≡ b → ⊥) → f u ≡ g u)
+    → sumBelow n f + (g a + g b) ≡ sumBelow n g + (f a + f b)
+sumBelow-but-two f g n a b l m d h =
+    let mixed : ℕ → ℕ = λ u. cond (eqb u a) (g u) (f u) in
+    let at-a : mixed a ≡ g a = rw (eqb-self a) in
+    let at-b : mixed b ≡ f b = rw (ne-eqb b a (λ e. d (sym e))) in
+    omega (
+      arith,
+      at-a,
+      at-b,
+      sumBelow-but-one f mixed n a l (λ u _ z. rw (ne-eqb u a z)),
+      sumBelow-but-one mixed g n b m (λ u k z. split (eqb u a) (λ e. rw e) (λ e. rw e (h u k (eqb-false u a e) z))),
+    )

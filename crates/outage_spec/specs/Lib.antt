@@ -2,3 +2,7 @@
 pub mod Outage
 pub mod StudyOutcome
 pub mod Examples
+pub mod WeakenedTable
+pub mod EndTerms
+pub mod ChangeClaims
+pub mod StudyDue

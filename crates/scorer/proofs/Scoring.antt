@@ -16,10 +16,10 @@ use Rattle.table_spec.specs.Holds.{Scorable}
 use Rattle.table_spec.specs.Rows.{valid-below, row-valid}
 use Rattle.share_spec.specs.TableNetwork.{gameOf, maxDenominator, Over}
 use Rattle.share_spec.specs.TableGame.{game-on, term-whole}
-use Rattle.share_spec.specs.TermsGiven.{termTo, termsFrom, term-by-row, givenBy, all-given, none-given}
+use Rattle.share_spec.specs.TermsGiven.{termTo, termsFrom, term-by-row, terms-le, givenBy, all-given, none-given}
 use Rattle.share_terms.specs.Added.{Added}
 use Rattle.share_terms.specs.Adding.{added-same, added-both, cleared-long, cleared-zero, added-zeros}
-use Rattle.share_terms.specs.RowTerms.{terms-le, row-room, terms-added}
+use Rattle.share_terms.specs.RowTerms.{row-room, terms-added}
 use Rattle.scorer.specs.ScorerWork.{Room}
 
 -- ---- what one bus gives
@@ -36,7 +36,7 @@ module _ {t : List ℕ} (w : Scorable t) {L : ℕ} (o : Over t L) {bus : ℕ} {r
   as-row v = rw er (term-by-row t L bus v)
 
   given-le : (v : ℕ) → termTo (gameOf t) L bus v ≤ L
-  given-le v = omega (arith, as-row v, terms-le L bus (need t bus) r whole by-row v)
+  given-le v = omega (arith, as-row v, terms-le (need t bus) r L bus v whole)
 
   -- its terms are added to the numerators u
   module _ (u : List ℕ) (room : Room (busCount t) L u) where

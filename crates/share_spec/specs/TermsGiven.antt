@@ -2,9 +2,9 @@
 -- that is the closed formula.
 use mathlib.Core.Bool.{cond}
 use mathlib.Core.List.{List}
-use mathlib.Core.Path.{_≡_, ap, _∙_}
+use mathlib.Core.Path.{_≡_, sym, ap, _∙_}
 use Prim.Native.Nat.{ℕ, _+_, _*_, _≤_, _<_}
-use native.Mathlib.Nat.{one-mul, mul-zero}
+use native.Mathlib.Nat.{one-mul, mul-zero, mul-le-mul-left}
 use native.Mathlib.Omega.{arith}
 use borrow.Author.Tests.{lt-ltb, ne-eqb}
 use lib.Dec.{eqb}
@@ -12,11 +12,16 @@ use lib.ListN.{length}
 use Rattle.lists.specs.Lists.{indicator, count, _∈_, has}
 use Rattle.lists.specs.Below.{sumBelow, range}
 use Rattle.lists.specs.Tests.{fails}
-use Rattle.lists.specs.Counts.{has-in, has-none, has-once}
+use Rattle.lists.specs.Sums.{indicator-le}
+use Rattle.lists.specs.Counts.{has-in, has-none, count-le, has-once}
 use Rattle.lists.specs.SumsBelow.{sumBy-range, sumBelow-same, sumBelow-add, sumBelow-const, sumBelow-single, in-range, of-range}
-use Rattle.game.specs.Game.{Game, ownTerm, neighbourTerm, own, neighbour, GameOn, numerator as formula}
+use Rattle.game.specs.Game.{Game, ownTerm, neighbourTerm, own, neighbour, GameOn, Whole, numerator as formula}
+use Rattle.game.specs.Terms.{terms-whole}
 use Rattle.table_spec.specs.Layout.{row, need}
+use Rattle.share_spec.specs.Network.{Network, Watching}
+use Rattle.share_spec.specs.Formula.{numeratorOver}
 use Rattle.share_spec.specs.TableNetwork.{gameOf}
+use Rattle.share_spec.specs.FairFormula.{as-game}
 
 -- what bus u gives to the numerator of bus v, over L
 unfoldable pub termTo : Game → ℕ → ℕ → ℕ → ℕ
@@ -29,6 +34,17 @@ termsFrom k r L u v = ownTerm k (length r) L * indicator (eqb v u) + neighbourTe
 pub term-by-row : (t : List ℕ) (L u v : ℕ) → termTo (gameOf t) L u v ≡ termsFrom (need t u) (row t u) L u v
 unfolding termTo termsFrom
 term-by-row t L u v = rw (one-mul, one-mul)
+
+-- no bus gets more than L from another
+pub terms-le : (k : ℕ) (r : List ℕ) (L u v : ℕ) → Whole k (length r) L → termsFrom k r L u v ≤ L
+unfolding termsFrom
+terms-le k r L u v w =
+    omega (
+      arith,
+      terms-whole k (length r) L w,
+      mul-le-mul-left (ownTerm k (length r) L) (indicator-le (eqb v u)),
+      mul-le-mul-left (neighbourTerm k (length r) L) (count-le v r),
+    )
 
 -- what the first m buses give to the numerator of bus v
 abbrev pub givenBy : Game → ℕ → ℕ → ℕ → ℕ
@@ -63,3 +79,7 @@ module _ (n : ℕ) (g : Game) (on : GameOn (range n) g) (L : ℕ) where
           let outside : v ∈ g .watchers u → ⊥ = λ m. omega (arith, of-range v n (on .watchers-inside u (in-range u n b) v m)) in
           let none : count v (g .watchers u) ≡ 0 = has-none v (g .watchers u) (fails _ (λ e. outside (has-in v (g .watchers u) e))) in
           omega (arith, ap (λ x. own g L u * indicator x) (ne-eqb v u (λ e. omega arith)), ap (λ c. neighbour g L u * c) none)
+
+-- so a numerator is what all buses of the network give
+pub numerator-given : {N : Network} → Watching N → (L v : ℕ) → v < N .buses → numeratorOver N L v ≡ givenBy (N .game) L (N .buses) v
+numerator-given {N} w L v b = sym (all-given (N .buses) (N .game) (w .on) L v b ∙ as-game w L v b)

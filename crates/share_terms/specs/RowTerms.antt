@@ -2,16 +2,13 @@
 use mathlib.Core.List.{List}
 use mathlib.Core.Path.{_≡_}
 use Prim.Native.Nat.{ℕ, _+_, _-_, _*_, _^_, _≤_, _<_}
-use native.Mathlib.Nat.{mul-le-mul-left}
 use native.Mathlib.Omega.{arith}
 use lib.Dec.{eqb}
 use lib.ListN.{length, set}
 use Rattle.lists.specs.Lists.{indicator, count, _∈_, at}
-use Rattle.lists.specs.Counts.{count-le}
-use Rattle.lists.specs.Sums.{indicator-le}
 use Rattle.game.specs.Game.{ownTerm, neighbourTerm, Whole}
 use Rattle.game.specs.Terms.{terms-whole}
-use Rattle.share_spec.specs.TermsGiven.{termsFrom}
+use Rattle.share_spec.specs.TermsGiven.{termsFrom, terms-le}
 use Rattle.share_terms.specs.Added.{Added}
 use Rattle.share_terms.specs.Adding.{added-entry, added-both}
 
@@ -31,10 +28,6 @@ module _ (L bus k : ℕ) (r : List ℕ) (whole : Whole k (length r) L) {x : ℕ}
   unfolding termsFrom
   as-given v = let e : left ≡ ownTerm k (length r) L = omega (arith, all) in rw (e, ex)
 
-  -- no bus gets more than L from another
-  pub terms-le : (v : ℕ) → termsFrom k r L bus v ≤ L
-  terms-le v = omega (arith, as-given v, all, mul-le-mul-left left (indicator-le (eqb v bus)), mul-le-mul-left x (count-le v r))
-
   -- the sums u have an entry for the bus
   module _ (u : List ℕ) (b : bus < length u) where
     left-added : Added (λ v. left * indicator (eqb v bus)) u (set u bus (at u bus + left))
@@ -44,7 +37,7 @@ module _ (L bus k : ℕ) (r : List ℕ) (whole : Whole k (length r) L) {x : ℕ}
     pub row-room : ((v : ℕ) → v ∈ r → (v < length u) × (at u v + L < 2 ^ 64)) → (v : ℕ) → v ∈ r
         → (v < length (set u bus (at u bus + left))) × (at (set u bus (at u bus + left)) v + x * count v r < 2 ^ 64)
     row-room room v m =
-        (omega (arith, room v m .0, left-added .long), omega (arith, room v m .1, left-added .each v, as-given v, terms-le v))
+        (omega (arith, room v m .0, left-added .long), omega (arith, room v m .1, left-added .each v, as-given v, terms-le k r L bus v whole))
 
     -- and with that all is added that it gives
     pub terms-added : {w : List ℕ} → Added (λ v. x * count v r) (set u bus (at u bus + left)) w → Added (termsFrom k r L bus) u w

@@ -7,8 +7,8 @@ use native.Mathlib.Omega.{arith}
 use borrow.Author.Tests.{ltb-true, lt-ltb}
 use lib.Dec.{ltb}
 use lib.ListN.{length}
-use Rattle.lists.specs.Lists.{indicator, has, at}
-use Rattle.lists.specs.Below.{sumBelow, countBelow, joinBelow, listBelow}
+use Rattle.lists.specs.Lists.{indicator, has}
+use Rattle.lists.specs.Below.{sumBelow, countBelow, joinBelow}
 use Rattle.lists.specs.Tests.{split, fails, and-both, and-left, and-right}
 use Rattle.lists.specs.Counts.{has-in}
 use Rattle.lists.specs.Places.{at-in}

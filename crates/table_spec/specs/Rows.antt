@@ -1,14 +1,15 @@
 -- Laws of rows and of the sections of a table.
 use mathlib.Core.List.{List}
 use mathlib.Core.Path.{_≡_, sym, ap, ap₂, _∙_}
-use Prim.Native.Nat.{ℕ, _+_, _-_, _≤_, _<_}
+use Prim.Native.Nat.{ℕ, _+_, _≤_, _<_}
 use native.Mathlib.Nat.{le-refl, le-trans}
 use native.Mathlib.Numerals.{add-one}
 use native.Mathlib.Decide.{le-ind}
 use native.Mathlib.Omega.{arith}
 use lib.ListN.{length}
-use Rattle.lists.specs.Lists.{_∈_, at, part, Once}
-use Rattle.lists.specs.Places.{length-part, at-part, part-part, ascending-once, at-in}
+use Rattle.lists.specs.Lists.{_∈_, without, at, part, Once}
+use Rattle.lists.specs.Places.{length-part, at-part, part-part, ascending-once, at-in, in-at}
+use Rattle.lists.specs.Without.{of-without, ascends-without}
 use Rattle.table_spec.specs.Limits.{maxDegree}
 use Rattle.table_spec.specs.Layout.{rowAt, rowSize, busCount, needs, starts, last, entries, neighbourNumbers, startsAt, row, rowStart, degree}
 use Rattle.table_spec.specs.Holds.{Complete, Spans, ValidRow, Scorable}
@@ -47,6 +48,14 @@ module _ {n i : ℕ} {r : List ℕ} (w : ValidRow n i r) where
 
   pub valid-others : i ∈ r → ⊥
   valid-others m = let k = at-in i r m in w .others (k .0) (k .1) (k .2)
+
+-- a valid row without some of its numbers is one
+pub valid-without : {n i : ℕ} {r : List ℕ} (s : List ℕ) → ValidRow n i r → ValidRow n i (without s r)
+valid-without {n} {i} {r} s w = record {
+  below = λ k b. valid-below w _ (of-without s r _ (in-at (without s r) k b));
+  others = λ k b e. valid-others w (of-without s r i (rw e at (in-at (without s r) k b)));
+  ascends = ascends-without s r (w .ascends);
+}
 
 -- ---- the sections of a table, as code reads them: the bus count into n, the last row start into x
 

@@ -1,0 +1,97 @@
+-- Of all terms only those of the line's ends move: a bus's change is what the two ends give it without the line less what they give it with the line.
+use mathlib.Core.List.{List, [], _∷_}
+use mathlib.Core.Path.{_≡_, sym, ap, ap₂, subst, _∙_}
+use Prim.Native.Nat.{ℕ, _+_, _*_, _≤_, _<_}
+use native.Mathlib.Omega.{arith}
+use lib.Signed.{mag}
+use Rattle.lists.specs.Lists.{without}
+use Rattle.lists.specs.SumsBelow.{sumBelow-but-two}
+use Rattle.signed.specs.Signed.{difference}
+use Rattle.signed.specs.Differences.{difference-same, difference-mag}
+use Rattle.table_spec.specs.Layout.{busCount, row, need}
+use Rattle.table_spec.specs.Holds.{Holds}
+use Rattle.share_spec.specs.Formula.{numeratorOver}
+use Rattle.share_spec.specs.TableNetwork.{gameOf, Over}
+use Rattle.share_spec.specs.TableGame.{term-whole}
+use Rattle.share_spec.specs.TermsGiven.{termTo, termsFrom, term-by-row, terms-le, givenBy, numerator-given}
+use Rattle.two_way.specs.TwoWay.{networkOf}
+use Rattle.two_way.specs.TwoWaySound.{watching}
+use Rattle.outage_spec.specs.Outage.{withoutPair, changeOver}
+use Rattle.outage_spec.specs.StudyOutcome.{Line}
+use Rattle.outage_spec.specs.WeakenedTable.{lower-inside, weak-buses, weak-need, lower-row, upper-row, other-row, weak-scored}
+
+module _ {t : List ℕ} (w : Holds t) {a b : ℕ} (line : Line t a b) (L : ℕ) where
+  abbrev s : List ℕ
+  s = withoutPair t a b
+
+  -- what the ends give to bus v with the line, and without it
+  abbrev pub endsWith : ℕ → ℕ
+  endsWith v = termsFrom (need t a) (row t a) L a v + termsFrom (need t b) (row t b) L b v
+
+  abbrev pub endsWithout : ℕ → ℕ
+  endsWithout v = termsFrom (need t a) (without (b ∷ []) (row t a)) L a v + termsFrom (need t b) (without (a ∷ []) (row t b)) L b v
+
+  with-terms : (v : ℕ) → termTo (gameOf t) L a v + termTo (gameOf t) L b v ≡ endsWith v
+  with-terms v = ap₂ _+_ (term-by-row t L a v) (term-by-row t L b v)
+
+  without-terms : (v : ℕ) → termTo (gameOf s) L a v + termTo (gameOf s) L b v ≡ endsWithout v
+  without-terms v =
+      ap₂ _+_
+      (term-by-row s L a v ∙ ap₂ (λ k r. termsFrom k r L a v) (weak-need w line a) (lower-row w line))
+      (term-by-row s L b v ∙ ap₂ (λ k r. termsFrom k r L b v) (weak-need w line b) (upper-row w line))
+
+  -- every other bus gives as before
+  other-terms : (u v : ℕ) → u < busCount t → (u ≡ a → ⊥) → (u ≡ b → ⊥) → termTo (gameOf s) L u v ≡ termTo (gameOf t) L u v
+  other-terms u v l p q =
+      term-by-row s L u v
+      ∙ ap₂ (λ k r. termsFrom k r L u v) (weak-need w line u) (other-row w line u l p q)
+      ∙ sym (term-by-row t L u v)
+
+  numerators-moved : (v : ℕ) → v < busCount t → numeratorOver (networkOf s) L v + endsWith v ≡ endsWithout v + numeratorOver (networkOf t) L v
+  numerators-moved v l =
+      let c = weak-scored w line in
+      let n = weak-buses w line in
+      omega (
+        arith,
+        numerator-given (watching (w .shape) (w .mirrored)) L v l,
+        numerator-given (watching (c .shape) (c .mirrored)) L v (omega (arith, n)),
+        ap (λ m. givenBy (gameOf s) L m v) n,
+        sumBelow-but-two (λ u. termTo (gameOf s) L u v) (λ u. termTo (gameOf t) L u v) (busCount t) a b (lower-inside w line) (line .inside)
+            (λ e. omega (arith, line .ascends)) (λ u m. other-terms u v m),
+        with-terms v,
+        without-terms v,
+      )
+
+  -- THE CHANGE IS THE ENDS'
+  pub change-by-ends : (v : ℕ) → v < busCount t → changeOver (networkOf t) (networkOf s) L v ≡ difference (endsWithout v) (endsWith v)
+  unfolding changeOver
+  change-by-ends v l = difference-same _ _ _ _ (numerators-moved v l)
+
+  -- L makes the terms whole with the line and without it
+  module _ (o : Over t L) (p : Over s L) where
+    pub ends-with-le : (v : ℕ) → endsWith v ≤ 2 * L
+    ends-with-le v =
+        omega (
+          arith,
+          terms-le (need t a) (row t a) L a v (term-whole (w .shape) o a (lower-inside w line)),
+          terms-le (need t b) (row t b) L b v (term-whole (w .shape) o b (line .inside)),
+        )
+
+    pub ends-without-le : (v : ℕ) → endsWithout v ≤ 2 * L
+    ends-without-le v =
+        let c = weak-scored w line .shape in
+        let n = weak-buses w line in
+        omega (
+          arith,
+          without-terms v,
+          term-by-row s L a v,
+          term-by-row s L b v,
+          terms-le (need s a) (row s a) L a v (term-whole c p a (omega (arith, n, lower-inside w line))),
+          terms-le (need s b) (row s b) L b v (term-whole c p b (omega (arith, n, line .inside))),
+        )
+
+    -- so no change is above 2 L or below -2 L
+    pub change-le : (v : ℕ) → v < busCount t → mag (changeOver (networkOf t) (networkOf s) L v) ≤ 2 * L
+    change-le v l =
+        let small = difference-mag (2 * L + 1) (endsWithout v) (endsWith v) (omega (arith, ends-without-le v)) (omega (arith, ends-with-le v)) in
+        omega (arith, subst (λ z. mag z < 2 * L + 1) (sym (change-by-ends v l)) small)

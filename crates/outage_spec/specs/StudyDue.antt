@@ -1,0 +1,98 @@
+-- What is due of the outage study, and that it is all that is promised.
+use mathlib.Core.Bool.{true, not}
+use mathlib.Core.List.{List}
+use mathlib.Core.Path.{_≡_, refl, sym, ap, _∙_}
+use Prim.Native.Nat.{ℕ, _*_, _≤_, _<_}
+use native.Mathlib.Omega.{arith}
+use borrow.Author.Tests.{lt-ltb}
+use lib.IntN.{ℤ, pos, _*ℤ_}
+use lib.ListN.{length, drop, List·getD-append}
+use lib.Signed.{mag}
+use Rattle.signed.specs.Signed.{signedBelow, signedAt}
+use Rattle.signed.specs.SignedLists.{length-signedBelow, signedBelow-at, totalBelow-same}
+use Rattle.refusals.specs.Outcomes.{Outcome, gives}
+use Rattle.refusals.specs.Due.{Due, accept, pass, not-below}
+use Rattle.game.specs.Orders.{factorial}
+use Rattle.game.specs.EveryOrder.{every-order-once}
+use Rattle.table_spec.specs.Layout.{busCount, row, lines}
+use Rattle.table_spec.specs.Holds.{holds, Holds}
+use Rattle.table_spec.specs.Facts.{holds-facts}
+use Rattle.table_spec.specs.Lines.{lowerEnd, upperEnd}
+use Rattle.table_spec.specs.LinePairs.{pairs-in, neighbour-below, length-pairs}
+use Rattle.table_spec.specs.TableCauses.{on-held}
+use Rattle.share_spec.specs.Network.{denominator}
+use Rattle.share_spec.specs.TableNetwork.{maxDenominator, Over}
+use Rattle.share_spec.specs.Denominator.{common-denominator}
+use Rattle.share_spec.specs.TableGame.{own-over, over-whole}
+use Rattle.two_way.specs.TwoWay.{networkOf}
+use Rattle.two_way.specs.TwoWaySound.{total-weight, watching}
+use Rattle.outage_spec.specs.Outage.{withoutLine, change}
+use Rattle.outage_spec.specs.StudyOutcome.{studyCauses, studyOutcome, storedChanges, changesAfter, Line, AllStudied}
+use Rattle.outage_spec.specs.WeakenedTable.{weak-buses, weak-scored, weak-over}
+use Rattle.outage_spec.specs.EndTerms.{change-le}
+use Rattle.outage_spec.specs.ChangeClaims.{changes-none, change-fair, change-far}
+
+-- EACH NUMBER BELOW THE LINE COUNT NAMES A LINE
+pub line-named : {t : List ℕ} → Holds t → (k : ℕ) → k < lines t → Line t (lowerEnd t k) (upperEnd t k)
+line-named {t} w k l =
+    let p = pairs-in (busCount t) (row t) k (omega (arith, length-pairs t w)) in
+    record { ascends = p .1; inside = neighbour-below t w (lowerEnd t k) (upperEnd t k) (p .0) (p .2); joined = p .2 }
+
+-- where entries that held x are lent
+abbrev pub StudyDue : List ℕ → ℕ → List ℤ → Outcome ℕ → List ℤ → Type 0
+StudyDue t k x = Due (studyCauses t k (length x)) (denominator (networkOf t)) (storedChanges t k x) x
+
+-- ---- a line of a network
+
+module _ (t : List ℕ) (h : holds t ≡ true) (k : ℕ) (b : k < lines t) where
+  held : Holds t
+  held = holds-facts t h
+
+  pub line-over : {L : ℕ} → L ≡ denominator (networkOf t) → Over t L × Over (withoutLine t k) L
+  line-over e = (own-over (held .shape) e, weak-over held (line-named held k b) e)
+
+  -- NO CHANGE IS ABOVE 2 L OR BELOW -2 L
+  pub change-small : (v : ℕ) → v < busCount t → mag (change t k v) ≤ 2 * maxDenominator
+  change-small v l =
+      let o = line-over refl in
+      omega (arith, change-le held (line-named held k b) (denominator (networkOf t)) (o .0) (o .1) v l, o .0 .bounded)
+
+  -- entries enough are lent
+  module _ (x : List ℤ) (l : busCount t ≤ length x) where
+    taken : StudyDue t k x (gives (denominator (networkOf t))) (storedChanges t k x)
+    taken = on-held h (pass (ap not (lt-ltb k (lines t) b)) (not-below refl refl l (accept refl refl)))
+
+    entry-is : (v : ℕ) → v < busCount t → signedAt (storedChanges t k x) v ≡ change t k v
+    unfolding storedChanges signedAt
+    entry-is v m =
+        List·getD-append (signedBelow (busCount t) (change t k)) (drop (busCount t) x) (pos 0) v (omega (arith, length-signedBelow (busCount t) (change t k)))
+        ∙ signedBelow-at (change t k) (busCount t) v m
+
+-- ALL THAT IS PROMISED of what is answered and stored
+pub all-studied : (t : List ℕ) (k : ℕ) (x : List ℤ) {o : Outcome ℕ} {after : List ℤ}
+    → o ≡ studyOutcome t k (length x) → after ≡ changesAfter t k x → AllStudied t k (length x) o after
+all-studied t k x {after = after} e f h b l =
+    let w = held t h k b in
+    let line = line-named w k b in
+    let weak = weak-scored w line in
+    let over = line-over t h k b refl in
+    let due = taken t h k b x l in
+    let entry : (v : ℕ) → v < busCount t → signedAt after v ≡ change t k v = λ v m. ap (λ a. signedAt a v) (f ∙ sym (due .after)) ∙ entry-is t h k b x l v m in
+    let full = watching (w .shape) (w .mirrored) in
+    let left = watching (weak .shape) (weak .mirrored) in
+    let n = weak-buses w line in
+    let L = denominator (networkOf t) in
+    let whole = over-whole (w .shape) (over .0) in
+    let still = over-whole (weak .shape) (over .1) in
+    record {
+      L = L;
+      given = e ∙ sym (due .answered);
+      over = common-denominator (networkOf t);
+      line = line;
+      weakened = weak;
+      every = every-order-once (busCount t);
+      fair = λ v m. ap (λ z. pos (factorial (busCount t)) *ℤ z) (entry v m) ∙ change-fair full left n L whole still v m;
+      none = totalBelow-same (signedAt after) (change t k) (busCount t) entry
+          ∙ changes-none full left n L whole still (total-weight (withoutLine t k) ∙ n ∙ sym (total-weight t));
+      far = λ v m r. entry v m ∙ change-far w line L v m r;
+    }
