@@ -111,39 +111,39 @@ fn add_terms(over: u64, need: usize, row: &[u16], bus: usize, sums: &mut [u64])
     give(row, term, sums);
 }
 
-// Adds the terms of an end of a line: those with the line to one list of sums, and those without it to the other.
+// Adds the terms of an end of a line to the sums before its loss, and those without the line to the sums after it.
 fn add_end(
     table: &[u16],
     over: u64,
     end: usize,
     other: usize,
-    with: &mut [u64],
-    without: &mut [u64],
+    before: &mut [u64],
+    after: &mut [u64],
 )
     requires { ⌜ Holds (now table) × (end < busCount (now table)) × Over (now table) over ⌝ }
     requires { ⌜ Divided (length (without (other ∷ []) (row (now table) end))) over ⌝ }
-    requires { ⌜ Room over (now with) × (busCount (now table) ≤ length (now with)) ⌝ }
-    requires { ⌜ Room over (now without) × (busCount (now table) ≤ length (now without)) ⌝ }
-    ensures { λ _. ⌜ Added (termsFrom (need (now (table .entry)) end) (row (now (table .entry)) end) over end) (now (with .entry)) (now (with .exit)) ⌝ }
-    ensures { λ _. ⌜ Added (termsFrom (need (now (table .entry)) end) (without (other ∷ []) (row (now (table .entry)) end)) over end) (now (without .entry)) (now (without .exit)) ⌝ }
+    requires { ⌜ Room over (now before) × (busCount (now table) ≤ length (now before)) ⌝ }
+    requires { ⌜ Room over (now after) × (busCount (now table) ≤ length (now after)) ⌝ }
+    ensures { λ _. ⌜ Added (termsFrom (need (now (table .entry)) end) (row (now (table .entry)) end) over end) (now (before .entry)) (now (before .exit)) ⌝ }
+    ensures { λ _. ⌜ Added (termsFrom (need (now (table .entry)) end) (without (other ∷ []) (row (now (table .entry)) end)) over end) (now (after .entry)) (now (after .exit)) ⌝ }
 {
     let row = neighbours(table, end);
     let need = need(table, end);
-    add_terms(over, need, row, end, with);
+    add_terms(over, need, row, end, before);
     let mut left = [0u16; Network::LINES_AT_BUS];
     let many = leave_out(row, other, &mut left);
-    add_terms(over, need, &left[..many], end, without);
+    add_terms(over, need, &left[..many], end, after);
 }
 
-// Stores what each of n buses has without the line less what it has with it.
-fn store(with: &[u64], without: &[u64], n: usize, changes: &mut [i64])
-    requires { ⌜ (n ≤ length (now with)) × (n ≤ length (now without)) × (n ≤ length (now changes)) ⌝ }
-    requires { ⌜ ((v : ℕ) → (at (now with) v < 2 ^ 63) × (at (now without) v < 2 ^ 63)) ⌝ }
-    ensures { λ _. ⌜ now (changes .exit) ≡ signedBelow n (λ v. difference (at (now (without .entry)) v) (at (now (with .entry)) v)) ++ drop n (now (changes .entry)) ⌝ }
+// Stores the sum of each of n buses after the loss less its sum before it.
+fn store(before: &[u64], after: &[u64], n: usize, changes: &mut [i64])
+    requires { ⌜ (n ≤ length (now before)) × (n ≤ length (now after)) × (n ≤ length (now changes)) ⌝ }
+    requires { ⌜ ((v : ℕ) → (at (now before) v < 2 ^ 63) × (at (now after) v < 2 ^ 63)) ⌝ }
+    ensures { λ _. ⌜ now (changes .exit) ≡ signedBelow n (λ v. difference (at (now (after .entry)) v) (at (now (before .entry)) v)) ++ drop n (now (changes .entry)) ⌝ }
 {
     let mut bus = 0;
     while bus < n {
-        let change = less(without[bus], with[bus]);
+        let change = less(after[bus], before[bus]);
         changes[bus] = change;
         bus += 1;
     }
@@ -159,11 +159,11 @@ pub fn study_over(table: &[u16], line: usize, over: u64, changes: &mut [i64])
     let ends = ends_of(table, line);
     let lower = ends.lower;
     let upper = ends.upper;
-    let mut with = [0u64; Network::BUSES];
-    let mut without = [0u64; Network::BUSES];
-    add_end(table, over, lower, upper, &mut with, &mut without);
-    add_end(table, over, upper, lower, &mut with, &mut without);
-    store(&with, &without, bus_count(table), changes);
+    let mut before = [0u64; Network::BUSES];
+    let mut after = [0u64; Network::BUSES];
+    add_end(table, over, lower, upper, &mut before, &mut after);
+    add_end(table, over, upper, lower, &mut before, &mut after);
+    store(&before, &after, bus_count(table), changes);
 }
 
 // The study of a table that was tested.

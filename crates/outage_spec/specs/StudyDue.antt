@@ -1,17 +1,19 @@
 -- What is due of the outage study, and that it is all that is promised.
 use mathlib.Core.Bool.{true, not}
-use mathlib.Core.List.{List}
+use mathlib.Core.List.{List, [], _∷_, _++_}
 use mathlib.Core.Path.{_≡_, refl, sym, ap, _∙_}
 use Prim.Native.Nat.{ℕ, _*_, _≤_, _<_}
 use native.Mathlib.Omega.{arith}
-use borrow.Author.Tests.{lt-ltb}
+use borrow.Author.Tests.{lt-ltb, le-ltb}
+use lib.Dec.{ltb}
 use lib.IntN.{ℤ, pos, _*ℤ_}
 use lib.ListN.{length, drop, List·getD-append}
 use lib.Signed.{mag}
 use Rattle.signed.specs.Signed.{signedBelow, signedAt}
 use Rattle.signed.specs.SignedLists.{length-signedBelow, signedBelow-at, totalBelow-same}
-use Rattle.refusals.specs.Outcomes.{Outcome, gives}
-use Rattle.refusals.specs.Due.{Due, accept, pass, not-below}
+use Rattle.refusals.specs.declared.Refusal.the-variants.{NumeratorsTooShort}
+use Rattle.refusals.specs.Outcomes.{Outcome, gives, refuses, _⇒_}
+use Rattle.refusals.specs.Due.{Due, both, accept, stop, pass, below, not-below}
 use Rattle.game.specs.Orders.{factorial}
 use Rattle.game.specs.EveryOrder.{every-order-once}
 use Rattle.table_spec.specs.Layout.{busCount, row, lines}
@@ -26,7 +28,7 @@ use Rattle.share_spec.specs.Denominator.{common-denominator}
 use Rattle.share_spec.specs.TableGame.{own-over, over-whole}
 use Rattle.two_way.specs.TwoWay.{networkOf}
 use Rattle.two_way.specs.TwoWaySound.{total-weight, watching}
-use Rattle.outage_spec.specs.Outage.{withoutLine, change}
+use Rattle.outage_spec.specs.Outage.{withoutLine, changeOver, change}
 use Rattle.outage_spec.specs.StudyOutcome.{studyCauses, studyOutcome, storedChanges, changesAfter, Line, AllStudied}
 use Rattle.outage_spec.specs.WeakenedTable.{weak-buses, weak-scored, weak-over}
 use Rattle.outage_spec.specs.EndTerms.{change-le}
@@ -41,6 +43,32 @@ line-named {t} w k l =
 -- where entries that held x are lent
 abbrev pub StudyDue : List ℕ → ℕ → List ℤ → Outcome ℕ → List ℤ → Type 0
 StudyDue t k x = Due (studyCauses t k (length x)) (denominator (networkOf t)) (storedChanges t k x) x
+
+-- ---- how the causes decide on a network; the line count was read into m, the bus count into n
+
+module _ (t : List ℕ) (k : ℕ) (x : List ℤ) (h : holds t ≡ true) {m n : ℕ} (em : m ≡ lines t) (en : n ≡ busCount t) where
+  pub no-line : m ≤ k → StudyDue t k x (refuses 18) x
+  no-line g = on-held h (stop (ap not (le-ltb k (lines t) (omega arith))))
+
+  module _ (b : k < m) where
+    named : {o : Outcome ℕ} {y : List ℤ} → Due ((ltb (length x) (busCount t) ⇒ NumeratorsTooShort) ∷ []) (denominator (networkOf t)) (storedChanges t k x) x o y → StudyDue t k x o y
+    named d = on-held h (pass (ap not (lt-ltb k (lines t) (omega arith))) d)
+
+    pub too-few : length x < n → StudyDue t k x (refuses 12) x
+    too-few l = named (below refl en l)
+
+    pub enough : n ≤ length x → {L : ℕ} {y : List ℤ} → L ≡ denominator (networkOf t) → y ≡ storedChanges t k x → StudyDue t k x (gives L) y
+    enough l e f = named (not-below refl en l (accept e f))
+
+-- changes over a number that was found to be the L of the full network
+pub over-stored : (t : List ℕ) (k : ℕ) (x : List ℤ) {L : ℕ} {y : List ℤ} → L ≡ denominator (networkOf t)
+    → y ≡ signedBelow (busCount t) (changeOver (networkOf t) (networkOf (withoutLine t k)) L) ++ drop (busCount t) x → y ≡ storedChanges t k x
+unfolding storedChanges
+over-stored t k x e f = f ∙ ap (λ L. signedBelow (busCount t) (changeOver (networkOf t) (networkOf (withoutLine t k)) L) ++ drop (busCount t) x) e
+
+-- what is due is answered and stored
+pub study-due : (t : List ℕ) (k : ℕ) (x : List ℤ) {o : Outcome ℕ} {y : List ℤ} → StudyDue t k x o y → (o ≡ studyOutcome t k (length x)) × (y ≡ changesAfter t k x)
+study-due t k x d = both d
 
 -- ---- a line of a network
 
@@ -59,9 +87,6 @@ module _ (t : List ℕ) (h : holds t ≡ true) (k : ℕ) (b : k < lines t) where
 
   -- entries enough are lent
   module _ (x : List ℤ) (l : busCount t ≤ length x) where
-    taken : StudyDue t k x (gives (denominator (networkOf t))) (storedChanges t k x)
-    taken = on-held h (pass (ap not (lt-ltb k (lines t) b)) (not-below refl refl l (accept refl refl)))
-
     entry-is : (v : ℕ) → v < busCount t → signedAt (storedChanges t k x) v ≡ change t k v
     unfolding storedChanges signedAt
     entry-is v m =
@@ -76,7 +101,7 @@ all-studied t k x {after = after} e f h b l =
     let line = line-named w k b in
     let weak = weak-scored w line in
     let over = line-over t h k b refl in
-    let due = taken t h k b x l in
+    let due = enough t k x h refl refl b l refl refl in
     let entry : (v : ℕ) → v < busCount t → signedAt after v ≡ change t k v = λ v m. ap (λ a. signedAt a v) (f ∙ sym (due .after)) ∙ entry-is t h k b x l v m in
     let full = watching (w .shape) (w .mirrored) in
     let left = watching (weak .shape) (weak .mirrored) in

@@ -2,7 +2,7 @@
 use mathlib.Core.Bool.{cond}
 use mathlib.Core.List.{List, [], _∷_, _++_}
 use mathlib.Core.Logic.{⊎-elim}
-use mathlib.Core.Path.{_≡_, refl, sym, ap, _∙_}
+use mathlib.Core.Path.{_≡_, refl, sym, ap, ap₂, _∙_}
 use Prim.Native.Nat.{ℕ, zero, suc, _+_, _-_, _≤_, _<_}
 use native.Mathlib.Nat.{not-suc-le-zero}
 use native.Mathlib.Omega.{arith}
@@ -26,6 +26,11 @@ signedBelow-at f zero i h = absurd (not-suc-le-zero h)
 signedBelow-at f (suc n) i h =
     ⊎-elim (λ e. rw e (getD-at (signedBelow n f) (f n) [] (pos 0) n (length-signedBelow n f)))
     (λ l. List·getD-append (signedBelow n f) (f n ∷ []) (pos 0) i (omega (arith, length-signedBelow n f)) ∙ signedBelow-at f n i l) (last-or h)
+
+pub signedBelow-same : (f g : ℕ → ℤ) (n : ℕ) → ((i : ℕ) → i < n → f i ≡ g i) → signedBelow n f ≡ signedBelow n g
+unfolding signedBelow
+signedBelow-same f g zero h = refl
+signedBelow-same f g (suc n) h = ap₂ (λ l z. l ++ (z ∷ [])) (signedBelow-same f g n (λ i l. h i (omega arith))) (h n (omega arith))
 
 pub totalBelow-same : (f g : ℕ → ℤ) (n : ℕ) → ((i : ℕ) → i < n → f i ≡ g i) → totalBelow n f ≡ totalBelow n g
 unfolding totalBelow

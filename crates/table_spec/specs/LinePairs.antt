@@ -7,13 +7,13 @@ use native.Mathlib.Omega.{arith}
 use borrow.Author.Tests.{ltb-true, lt-ltb}
 use lib.Dec.{ltb}
 use lib.ListN.{length}
-use Rattle.lists.specs.Lists.{indicator, has}
-use Rattle.lists.specs.Below.{sumBelow, countBelow, joinBelow}
+use Rattle.lists.specs.Lists.{indicator, has, at}
+use Rattle.lists.specs.Below.{sumBelow, countBelow, joinBelow, mapBelow}
 use Rattle.lists.specs.Tests.{split, fails, and-both, and-left, and-right}
 use Rattle.lists.specs.Counts.{has-in}
 use Rattle.lists.specs.Places.{at-in}
 use Rattle.lists.specs.SumsBelow.{sumBelow-same, sumBelow-const, sumBelow-swap, countBelow-cut}
-use Rattle.lists.specs.JoinBelow.{length-joinBelow, joinBelow-same, joinBelow-times, joinBelow-more}
+use Rattle.lists.specs.JoinBelow.{length-joinBelow, joinBelow-same, joinBelow-times, joinBelow-more, mapBelow-same, mapBelow-entries}
 use Rattle.lists.specs.ListBelow.{has-listBelow, listBelow-in, listBelow-ascends, joinBelow-passing}
 use Rattle.table_spec.specs.Limits.{maxBuses}
 use Rattle.table_spec.specs.Layout.{busCount, row, lines}
@@ -67,6 +67,16 @@ module _ (n : ℕ) (rows : ℕ → List ℕ) where
       unfolding pairs at-number
       joined-pairs =
           joinBelow-same _ _ n at-bus ∙ sym (joinBelow-times n maxBuses at-number) ∙ joinBelow-passing (λ c. g (c / maxBuses) (c % maxBuses)) (isPair rows) (n * maxBuses)
+
+    -- so is the list itself: the pairs of each bus in turn
+    pub pairs-joined : pairs n rows ≡ joinBelow n (λ i. joinBelow n (λ j. cond (ltb i j && has j (rows i)) (pairNumber i j ∷ []) []))
+    unfolding mapBelow
+    pairs-joined =
+        let l = pairs n rows in
+        sym
+        (joined-pairs (λ i j. pairNumber i j ∷ [])
+        ∙ mapBelow-same (λ k. pairNumber (lowerBus n rows k) (upperBus n rows k)) (at l) (length l) (λ k b. omega arith)
+        ∙ mapBelow-entries l)
 
 -- ---- a network
 

@@ -1,0 +1,4 @@
+pub mod Searching
+pub mod Counting
+pub mod EndRows
+pub mod Studying
