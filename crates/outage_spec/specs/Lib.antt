@@ -6,3 +6,4 @@ pub mod WeakenedTable
 pub mod EndTerms
 pub mod ChangeClaims
 pub mod StudyDue
+pub mod BeyondStudy

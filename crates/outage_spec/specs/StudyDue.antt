@@ -42,7 +42,7 @@ line-named {t} w k l =
 
 -- where entries that held x are lent
 abbrev pub StudyDue : List ℕ → ℕ → List ℤ → Outcome ℕ → List ℤ → Type 0
-StudyDue t k x = Due (studyCauses t k (length x)) (denominator (networkOf t)) (storedChanges t k x) x
+StudyDue t k x = Due (studyCauses (networkOf t) k (length x)) (denominator (networkOf t)) (storedChanges t k x) x
 
 -- ---- how the causes decide on a network; the line count was read into m, the bus count into n
 

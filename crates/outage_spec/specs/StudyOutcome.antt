@@ -26,11 +26,11 @@ use Rattle.outage_spec.specs.Outage.{withoutLine, change}
 -- ---- the call
 
 -- the line number is not below the number of pairs; fewer than n entries are lent
-abbrev pub studyCauses : List ℕ → ℕ → ℕ → List Cause
-studyCauses t line lent = onTable (holds t) ((not (ltb line (lines t)) ⇒ NoSuchLine) ∷ (ltb lent (busCount t) ⇒ NumeratorsTooShort) ∷ [])
+abbrev pub studyCauses : Network → ℕ → ℕ → List Cause
+studyCauses N line lent = onTable (N .held) ((not (ltb line (N .lines)) ⇒ NoSuchLine) ∷ (ltb lent (N .buses) ⇒ NumeratorsTooShort) ∷ [])
 
 abbrev pub studyOutcome : List ℕ → ℕ → ℕ → Outcome ℕ
-studyOutcome t line lent = outcome (studyCauses t line lent) (denominator (networkOf t))
+studyOutcome t line lent = outcome (studyCauses (networkOf t) line lent) (denominator (networkOf t))
 
 -- n changes, and behind them what entries that held x held there
 unfoldable pub storedChanges : List ℕ → ℕ → List ℤ → List ℤ
@@ -38,7 +38,7 @@ storedChanges t line x = signedBelow (busCount t) (change t line) ++ drop (busCo
 
 -- what entries that held x hold after the call: accepted, the changes are stored; refused, what they held
 abbrev pub changesAfter : List ℕ → ℕ → List ℤ → List ℤ
-changesAfter t line x = valuesOr x (outcome (studyCauses t line (length x)) (storedChanges t line x))
+changesAfter t line x = valuesOr x (outcome (studyCauses (networkOf t) line (length x)) (storedChanges t line x))
 
 -- ---- what is promised of the changes
 

@@ -1,0 +1,45 @@
+-- Slices that begin with the same table get the same answer from the outage study, and the same entries.
+use mathlib.Core.List.{List, _++_}
+use mathlib.Core.Path.{_≡_, ap, ap₂, _∙_, fun-ext}
+use Prim.Native.Nat.{ℕ, _≤_}
+use lib.IntN.{ℤ}
+use lib.ListN.{length, drop}
+use Rattle.lists.specs.Lists.{without}
+use Rattle.signed.specs.Signed.{signedBelow}
+use Rattle.refusals.specs.Outcomes.{outcome, valuesOr}
+use Rattle.table_spec.specs.Layout.{busCount, needs, row, entries, startsAt, tableOf}
+use Rattle.table_spec.specs.Lines.{lowerBus, upperBus}
+use Rattle.table_spec.specs.TableOutcomes.{SameNetwork}
+use Rattle.table_spec.specs.BeyondTable.{beyond}
+use Rattle.share_spec.specs.Network.{denominator}
+use Rattle.two_way.specs.TwoWay.{networkOf}
+use Rattle.two_way.specs.SameTable.{same-network}
+use Rattle.outage_spec.specs.Outage.{leaving, withoutPair, withoutLine, changeOver, change}
+use Rattle.outage_spec.specs.StudyOutcome.{studyCauses, studyOutcome, storedChanges, changesAfter}
+
+-- the table without line k, by the sections of the full one
+abbrev made : ℕ → List ℕ → (ℕ → List ℕ) → ℕ → List ℕ
+made n q rows k = tableOf n q (λ i. without (leaving (lowerBus n rows k) (upperBus n rows k) i) (rows i))
+
+module _ {a b : List ℕ} (w : SameNetwork a b) where
+  same-weakened : (k : ℕ) → withoutLine a k ≡ withoutLine b k
+  unfolding withoutPair
+  same-weakened k = ap (λ n. made n (needs a) (row a) k) (w .sizes) ∙ ap₂ (λ q rows. made (busCount b) q rows k) (w .needed) (fun-ext (w .rows))
+
+  pub same-change : (k v : ℕ) → change a k v ≡ change b k v
+  same-change k v = ap₂ (λ N M. changeOver N M (denominator N) v) (same-network w) (ap networkOf (same-weakened k))
+
+  pub same-outcome : (k lent : ℕ) → studyOutcome a k lent ≡ studyOutcome b k lent
+  same-outcome k lent = ap (λ N. outcome (studyCauses N k lent) (denominator N)) (same-network w)
+
+  same-stored : (k : ℕ) (x : List ℤ) → changesAfter a k x ≡ changesAfter b k x
+  unfolding storedChanges
+  same-stored k x =
+      ap (λ N. valuesOr x (outcome (studyCauses N k (length x)) (storedChanges a k x))) (same-network w)
+      ∙ ap (λ s. valuesOr x (outcome (studyCauses (networkOf b) k (length x)) s))
+      (ap₂ (λ n f. signedBelow n f ++ drop n x) (w .sizes) (fun-ext (same-change k)))
+
+-- ENTRIES BEYOND THE TABLE NEVER MATTER, x or y
+pub beyond-study : (t x y : List ℕ) → entries (startsAt t) t ≤ length t → (k : ℕ) (changes : List ℤ)
+    → (studyOutcome (t ++ x) k (length changes) ≡ studyOutcome (t ++ y) k (length changes)) × (changesAfter (t ++ x) k changes ≡ changesAfter (t ++ y) k changes)
+beyond-study t x y w k changes = let s = beyond t x y w in (same-outcome s k (length changes), same-stored s k changes)
