@@ -14,7 +14,7 @@ use Rattle.table_spec.specs.BeyondTable.{beyond}
 use Rattle.share_spec.specs.Network.{denominator}
 use Rattle.two_way.specs.TwoWay.{networkOf}
 use Rattle.two_way.specs.SameTable.{same-network}
-use Rattle.outage_spec.specs.Outage.{leaving, withoutPair, withoutLine, changeOver, change}
+use Rattle.outage_spec.specs.Outage.{leaving, withoutPair, withoutLine, changeOf, change}
 use Rattle.outage_spec.specs.StudyOutcome.{studyCauses, studyOutcome, storedChanges, changesAfter}
 
 -- the table without line k, by the sections of the full one
@@ -27,7 +27,7 @@ module _ {a b : List ℕ} (w : SameNetwork a b) where
   same-weakened k = ap (λ n. made n (needs a) (row a) k) (w .sizes) ∙ ap₂ (λ q rows. made (busCount b) q rows k) (w .needed) (fun-ext (w .rows))
 
   pub same-change : (k v : ℕ) → change a k v ≡ change b k v
-  same-change k v = ap₂ (λ N M. changeOver N M (denominator N) v) (same-network w) (ap networkOf (same-weakened k))
+  same-change k v = ap₂ (λ N M. changeOf N M v) (same-network w) (ap networkOf (same-weakened k))
 
   pub same-outcome : (k lent : ℕ) → studyOutcome a k lent ≡ studyOutcome b k lent
   same-outcome k lent = ap (λ N. outcome (studyCauses N k lent) (denominator N)) (same-network w)

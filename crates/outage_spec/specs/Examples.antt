@@ -1,4 +1,4 @@
--- Lines, networks without them, and changes, computed.
+-- Networks without a line, and changes, computed.
 use mathlib.Core.List.{List, [], _∷_, map}
 use mathlib.Core.Path.{_≡_, refl}
 use Prim.Native.Nat.{ℕ}
@@ -12,23 +12,14 @@ use Rattle.fraction.specs.Divisors.{gcdOf, lcmOf, lcmAll}
 use Rattle.game.specs.Game.{ownTerm, neighbourTerm}
 use Rattle.table_spec.specs.Layout.{rowAt, laid, needs, starts, neighbourNumbers, row, lines, tableOf}
 use Rattle.table_spec.specs.Holds.{within, complete, needsInRange, neverFall, shortRows, validEntry, validRow, validRows, soundRows, mirrored, twoWay, holds}
-use Rattle.table_spec.specs.Lines.{pairs, lowerEnd, upperEnd}
-use Rattle.table_spec.specs.Examples.{path}
+use Rattle.table_spec.specs.Lines.{pairs}
+use Rattle.table_spec.specs.Examples.{path, square}
 use Rattle.share_spec.specs.TableNetwork.{largestDegree, divisorsOf}
 use Rattle.share_spec.specs.Formula.{numeratorOver}
 use Rattle.outage_spec.specs.Outage.{withoutPair, withoutLine, changeOver}
 use Rattle.outage_spec.specs.StudyOutcome.{studyOutcome, storedChanges, changesAfter}
 
--- four buses with needs 1, 3, 1 and 2: 0 - 1, 0 - 3, 1 - 2, 1 - 3, 2 - 3
-square : List ℕ
-square = 4 ∷ 1 ∷ 3 ∷ 1 ∷ 2 ∷ 0 ∷ 2 ∷ 5 ∷ 7 ∷ 10 ∷ 1 ∷ 3 ∷ 0 ∷ 2 ∷ 3 ∷ 1 ∷ 3 ∷ 0 ∷ 1 ∷ 2 ∷ []
-
--- its lines 0 to 4, ascending by lower end, then by upper end
-in-order : (mapBelow 5 (lowerEnd square) ≡ 0 ∷ 0 ∷ 1 ∷ 1 ∷ 2 ∷ []) × (mapBelow 5 (upperEnd square) ≡ 1 ∷ 3 ∷ 2 ∷ 3 ∷ 3 ∷ [])
-unfolding square pairs listBelow row rowAt starts neighbourNumbers at joinBelow mapBelow
-in-order = (refl, refl)
-
--- without line 3, from bus 1 to bus 3, bus 1 has need 3 and degree 2
+-- without line 3, from bus 1 to bus 3, bus 1 of the square has need 3 and degree 2
 taken-out : withoutLine square 3 ≡ 4 ∷ 1 ∷ 3 ∷ 1 ∷ 2 ∷ 0 ∷ 2 ∷ 4 ∷ 6 ∷ 8 ∷ 1 ∷ 3 ∷ 0 ∷ 2 ∷ 1 ∷ 3 ∷ 0 ∷ 2 ∷ []
 unfolding square withoutPair tableOf laid pairs listBelow row rowAt needs starts neighbourNumbers at joinBelow mapBelow
 taken-out = refl

@@ -29,6 +29,10 @@ withoutLine t k = withoutPair t (lowerEnd t k) (upperEnd t k)
 unfoldable pub changeOver : Network → Network → ℕ → ℕ → ℤ
 changeOver N M L v = difference (numeratorOver M L v) (numeratorOver N L v)
 
--- its change when line k goes out, over the L of the full network
+-- over the L of N, the full network
+abbrev pub changeOf : Network → Network → ℕ → ℤ
+changeOf N M v = changeOver N M (denominator N) v
+
+-- the change of bus v when line k goes out
 abbrev pub change : List ℕ → ℕ → ℕ → ℤ
-change t k v = changeOver (networkOf t) (networkOf (withoutLine t k)) (denominator (networkOf t)) v
+change t k v = changeOf (networkOf t) (networkOf (withoutLine t k)) v

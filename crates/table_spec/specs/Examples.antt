@@ -6,10 +6,11 @@ use Prim.Native.Nat.{ℕ, suc, _+_}
 use lib.ListN.{getD, replicate}
 use Rattle.refusals.specs.Outcomes.{gives, refuses}
 use Rattle.lists.specs.Lists.{at}
-use Rattle.lists.specs.Below.{allBelow, sumBelow, joinBelow, mapBelow}
+use Rattle.lists.specs.Below.{allBelow, sumBelow, joinBelow, mapBelow, listBelow}
 use Rattle.table_spec.specs.Limits.{maxLines, maxEntries, maxBytes}
 use Rattle.table_spec.specs.Layout.{rowAt, laid, needs, starts, neighbourNumbers, row, need, lines, tableOf}
 use Rattle.table_spec.specs.Holds.{within, complete, needsInRange, neverFall, shortRows, validEntry, validRow, validRows, soundRows, mirrored, twoWay, canBeMet, holds}
+use Rattle.table_spec.specs.Lines.{pairs, lowerEnd, upperEnd}
 use Rattle.table_spec.specs.TableOutcomes.{degreeOutcome, rowOutcome, rowBefore, rowPlaceOutcome}
 
 most-lines : maxLines ≡ 5888
@@ -103,6 +104,15 @@ three-needs = refl
 path-lines : lines (path 1) ≡ 2
 unfolding path lines sumBelow holds twoWay complete within needsInRange soundRows neverFall shortRows validRows validRow validEntry mirrored rowAt needs starts neighbourNumbers row at allBelow
 path-lines = refl
+
+-- four buses with needs 1, 3, 1 and 2, and the lines 0 - 1, 0 - 3, 1 - 2, 1 - 3 and 2 - 3
+unfoldable pub square : List ℕ
+square = 4 ∷ 1 ∷ 3 ∷ 1 ∷ 2 ∷ 0 ∷ 2 ∷ 5 ∷ 7 ∷ 10 ∷ 1 ∷ 3 ∷ 0 ∷ 2 ∷ 3 ∷ 1 ∷ 3 ∷ 0 ∷ 1 ∷ 2 ∷ []
+
+-- its lines 0 to 4, ascending by lower end, then by upper end
+in-order : (mapBelow 5 (lowerEnd square) ≡ 0 ∷ 0 ∷ 1 ∷ 1 ∷ 2 ∷ []) × (mapBelow 5 (upperEnd square) ≡ 1 ∷ 3 ∷ 2 ∷ 3 ∷ 3 ∷ [])
+unfolding square pairs listBelow row rowAt starts neighbourNumbers at joinBelow mapBelow
+in-order = (refl, refl)
 
 path-answers :
     (map (degreeOutcome (path 1)) (0 ∷ 1 ∷ 2 ∷ 3 ∷ []) ≡ gives 1 ∷ gives 2 ∷ gives 1 ∷ refuses 13 ∷ [])

@@ -41,8 +41,10 @@ unfolding at
 give-requires c κs =
     let e = c .before .before in
     let s = start e in
-    row-room (s .args .over) (s .args .bus) (s .args .need) (s .args .row .now) (whole e) (term-is e) (s .args .sums .now) (s .pre .1 .1)
-    (λ v m. (s .pre .1 .2 v m, s .pre .1 .0 v))
+    λ v m.
+    let room = row-room (s .args .over) (s .args .bus) (s .args .need) (s .args .row .now) (whole e) (term-is e) (s .args .sums .now) (s .pre .1 .1)
+    (λ v m. (s .pre .1 .2 v m, s .pre .1 .0 v)) v m in
+    (room .0, omega (arith, room .1))
 
 same-length : tie.Need-same-length
 same-length c =

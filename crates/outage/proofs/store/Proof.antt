@@ -26,17 +26,17 @@ mul-less : tie.Need-mul-less Inv-loop μ-loop
 mul-less c = search needs
 
 shared-slice-read-less : tie.Need-shared-slice-read-less Inv-loop μ-loop
-shared-slice-read-less c = omega (arith, c .before .loop-test .taken, begun (c .before .before) .pre .0 .1)
+shared-slice-read-less c = let p = begun (c .before .before) .pre .0 in omega (arith, c .before .loop-test .taken, p .0, p .1)
 
 mul-less-2 : tie.Need-mul-less-2 Inv-loop μ-loop
 mul-less-2 c = search needs
 
 shared-slice-read-less-2 : tie.Need-shared-slice-read-less-2 Inv-loop μ-loop
-shared-slice-read-less-2 c = omega (arith, c .before .before .loop-test .taken, begun (c .before .before .before) .pre .0 .0)
+shared-slice-read-less-2 c = let p = begun (c .before .before .before) .pre .0 in omega (arith, c .before .before .loop-test .taken, p .0, p .1)
 
 less-requires : tie.Need-less-requires Inv-loop μ-loop
 unfolding at
-less-requires c κs = let v = c .before .before .before in (begun v .pre .1 (v .loop .bus) .1, begun v .pre .1 (v .loop .bus) .0)
+less-requires c κs = let v = c .before .before .before in let p = begun v .pre .1 (v .loop .bus) in (omega (arith, p .0, p .1), omega (arith, p .0, p .1))
 
 mul-change : tie.Need-mul-change Inv-loop μ-loop
 mul-change c = search needs

@@ -1,4 +1,5 @@
 -- `signed::magnitude` meets its contract.
+use native.Mathlib.Omega.{arith}
 use Rattle.signed.specs.SignedBits.{turned-fits, turned-cast, turned-sum, sum-fits, plain-cast, plain-read}
 use Rattle.signed.proofs.magnitude.Statement.{statement}
 use Rattle.signed.proofs.magnitude.Tie as tie
@@ -10,7 +11,7 @@ cast-result : tie.Need-cast-result
 cast-result c = turned-cast _ (c .before .fits .number) (c .if1 .taken)
 
 add-result : tie.Need-add-result
-add-result c = sum-fits _ (c .before .fits .number) (c .if1 .taken)
+add-result c = omega (arith, sum-fits _ (c .before .fits .number) (c .if1 .taken) .fits)
 
 returns : tie.Need-returns
 returns c = turned-sum _ (c .before .fits .number) (c .if1 .taken)
