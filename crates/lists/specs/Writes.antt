@@ -130,6 +130,10 @@ module _ (t : List ℕ) (i : ℕ) (vs : List ℕ) {u : List ℕ} {j : ℕ} (w : 
 pub written-none : (t : List ℕ) (i : ℕ) → WrittenAt [] i t i t
 written-none t i = (sym (add-zero i), sym (put-none t i))
 
+-- a store writes one entry
+pub written-entry : (t : List ℕ) (i x : ℕ) → i < length t → WrittenAt (x ∷ []) i t (i + 1) (set t i x)
+written-entry t i x h = (refl, stored-entry t i [] (sym (put-none t i)) (sym (add-zero i)) x h)
+
 -- what is written right behind what was written joins it
 pub written-append : (t : List ℕ) (i : ℕ) (vs ws : List ℕ) {u v : List ℕ} {j k : ℕ} → i ≤ length t → WrittenAt vs i t j u → WrittenAt ws j u k v → WrittenAt (vs ++ ws) i t k v
 written-append t i vs ws h a b = (omega (arith, a .0, b .0, length-append vs ws), b .1 ∙ stored-list t i vs (a .1) (a .0) ws h)

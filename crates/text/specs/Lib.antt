@@ -2,4 +2,5 @@
 pub mod Text
 pub mod Examples
 pub mod Decimal
+pub mod SignedDecimal
 pub mod Templates

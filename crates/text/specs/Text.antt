@@ -1,9 +1,10 @@
--- Text in ASCII: numbers in decimal, and templates in which each `#` stands for a number.
+-- Text in ASCII: numbers in decimal, with a minus sign if below zero, and templates in which each `#` stands for a number.
 -- Definitions only.
 use mathlib.Core.Bool.{Bool, true, false, cond}
 use mathlib.Core.List.{List, [], _∷_, _++_}
 use Prim.Native.Nat.{ℕ, zero, suc, _+_, _-_, _*_, _/_, _%_}
 use lib.Dec.{ltb, eqb}
+use lib.IntN.{ℤ, pos, negsuc}
 use lib.ListN.{drop}
 use Rattle.lists.specs.Lists.{indicator, at}
 
@@ -21,6 +22,15 @@ digits (suc more) false n = digits more (ltb (n / 10) 10) (n / 10) ++ (digit (n 
 -- n in decimal without leading zeros; n is always bound enough
 unfoldable pub decimal : ℕ → List ℕ
 decimal n = digits n (ltb n 10) n
+
+-- `-`
+abbrev pub minus : ℕ
+minus = 45
+
+-- a signed number in decimal; one below zero has a minus sign in front
+unfoldable pub signedDecimal : ℤ → List ℕ
+signedDecimal (pos n) = decimal n
+signedDecimal (negsuc n) = minus ∷ decimal (suc n)
 
 -- the value of digits that stand behind those of a
 abbrev pub digitsValue : ℕ → List ℕ → ℕ

@@ -1,12 +1,11 @@
 -- `text::decimal`, which calls itself, meets its contract. The measure is the number.
 use borrow.Author.Needs.{needs}
 use native.Mathlib.Omega.{arith}
-use mathlib.Core.List.{[]}
 use mathlib.Core.Path.{_≡_, sym, ap, _∙_}
 use Prim.Native.Nat.{ℕ, _+_, _/_, _<_}
 use lib.ListN.{length}
 use Rattle.lists.specs.Lists.{put}
-use Rattle.lists.specs.Writes.{put-none, stored-entry}
+use Rattle.lists.specs.Writes.{stored-entry, written-entry}
 use Rattle.text.specs.Text.{decimal}
 use Rattle.text.specs.Decimal.{decimal-small, decimal-large, length-small, length-large}
 use borrow.Fn.Kinds.{In}
@@ -32,11 +31,8 @@ slice-write-out t c = let a = c .before .before .args in omega (arith, c .before
 returns : (t : ℕ) → lts.Need-returns (below t, reads.Post) (given t) reads.Post
 returns t c =
     let a = c .before .before .args in
-    let small = length-small (a .value) (omega arith) in (
-      omega (arith, small),
-      stored-entry (a .out .now) (a .at) [] (sym (put-none (a .out .now) (a .at))) (omega arith) _ (omega (arith, c .before .before .pre .1, small))
-          ∙ ap (put (a .out .now) (a .at)) (sym (decimal-small (a .value) (omega arith))),
-    )
+    let small = length-small (a .value) (omega arith) in
+    rw (decimal-small (a .value) (omega arith)) (written-entry (a .out .now) (a .at) _ (omega (arith, c .before .before .pre .1, small)))
 
 -- the digits before the last are written: they are one fewer
 module _ {t : ℕ} (c : lts.After-decimal (below t, reads.Post) (given t) reads.Post) where
