@@ -2,26 +2,14 @@
 ghost use mathlib.Core.Path.{_≡_};
 ghost use Prim.Native.Nat.{_≤_};
 ghost use lib.ListN.{length};
-ghost use Rattle.lists.specs.Lists.{put, WrittenAt};
-ghost use Rattle.refusals.specs.Numbers.{numberOf};
-ghost use Rattle.sheet.specs.LineRoom.{longestLine};
-ghost use Rattle.report.specs.Report.{refusedLine, printed};
+ghost use Rattle.lists.specs.Lists.{put};
+ghost use Rattle.report.specs.Report.{printed};
 use network::Network;
 use reader::Reading;
-use reader::Refusal;
 use reader::read;
-use text::fill_template;
+use refused_line::write_refusal;
 pub use whole_sheet::LONGEST_SHEET;
 use whole_sheet::write_sheet;
-
-// Writes the line of a refused file.
-fn write_refusal(cause: Refusal, out: &mut [u8]) -> usize
-    requires { ⌜ longestLine ≤ length (now out) ⌝ }
-    ensures { λ r. ⌜ WrittenAt (refusedLine (numberOf cause)) 0 (now (out .entry)) r (now (out .exit)) ⌝ }
-    ensures { λ r. ⌜ r ≤ longestLine ⌝ }
-{
-    fill_template(b"refused #\n", &[cause.number() as u64], out, 0)
-}
 
 // Writes what the program prints for a file at the front of a buffer, and gives its byte count.
 pub fn report(file: &[u8], out: &mut [u8; LONGEST_SHEET]) -> usize

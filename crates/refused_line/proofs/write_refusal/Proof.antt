@@ -1,20 +1,17 @@
--- `report::write_refusal` meets its contract.
+-- `refused_line::write_refusal` meets its contract.
 use borrow.Author.Needs.{needs}
 use native.Mathlib.Omega.{arith}
-use mathlib.Core.List.{[], _∷_}
 use mathlib.Core.Path.{ap, _∙_}
 use Prim.Native.Nat.{_≤_}
 use lib.ListN.{length}
 use Rattle.lists.specs.Lists.{put}
-use Rattle.text.specs.Text.{filled}
-use Rattle.report.specs.Report.{refusedForm, refusedLine}
-use Rattle.sheet.specs.LineRoom.{longestLine}
-use Rattle.report.specs.Printing.{refused-fits}
-use Rattle.report.proofs.write_refusal.Statement.{statement}
-use Rattle.report.proofs.write_refusal.Tie as tie
+use Rattle.refused_line.specs.RefusedLine.{refusedLine, longestRefusal}
+use Rattle.refused_line.specs.RefusedFits.{refused-fits}
+use Rattle.refused_line.proofs.write_refusal.Statement.{statement}
+use Rattle.refused_line.proofs.write_refusal.Tie as tie
 
 -- the line of a number is short
-bounded : (c : tie.After-number) → length (filled refusedForm (c .number .result ∷ [])) ≤ longestLine
+bounded : (c : tie.After-number) → length (refusedLine (c .number .result)) ≤ longestRefusal
 bounded c = refused-fits (c .number .result) (omega arith)
 
 returns : tie.Need-returns
