@@ -9,12 +9,11 @@ pub answer-spec : {M : Type 1} → statement M
 answer-spec =
     tie.close
     (tie.spec
-    (λ c κs. search needs)
-    (λ c κs. search needs)
-    (λ c. c .report .ensures .0 .1)
-    (λ c. sym (length-take-le _ _ (c .before .report .ensures .0 .1)))
-    (λ c κs. search needs)
     (λ c. search needs)
     (λ c κs. search needs)
+    (λ c κs. search needs)
     (λ c. search needs)
+    (λ c. c .before .report .ensures .0 .1)
+    (λ c. sym (length-take-le _ _ (c .before .before .report .ensures .0 .1)))
+    (λ c κs. search needs)
     (λ c. search needs))

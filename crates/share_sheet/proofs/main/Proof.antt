@@ -4,7 +4,7 @@ use borrow.Author.Needs.{needs}
 use mathlib.Core.Path.{sym, subst}
 use lib.ListN.{length}
 use lib.Seq.{length-take-le}
-use Rattle.share_sheet.specs.Input.{Within}
+use Rattle.standard_io.specs.Input.{Within}
 use Rattle.share_sheet.proofs.main.Statement.{statement}
 use Rattle.share_sheet.proofs.main.Tie as tie
 

@@ -1,9 +1,9 @@
--- `share_sheet::is_text` meets its contract: no index leaves the file.
+-- `standard_io::is_text` meets its contract: no index leaves the file.
 use Prim.Native.Nat.{_≤_, _-_}
 use borrow.Author.Needs.{needs}
 use lib.ListN.{length}
-use Rattle.share_sheet.proofs.is_text.Statement.{statement}
-use Rattle.share_sheet.proofs.is_text.Tie as tie
+use Rattle.standard_io.proofs.is_text.Statement.{statement}
+use Rattle.standard_io.proofs.is_text.Tie as tie
 
 abbrev Inv-loop : tie.InvT-loop
 Inv-loop file i₀ i = i ≤ length file

@@ -1,4 +1,4 @@
--- `share_sheet::read_input` meets its contract: each read puts its bytes behind those that came before.
+-- `standard_io::read_input` meets its contract: each read puts its bytes behind those that came before.
 use Prim.Native.Nat.{_≤_, _-_}
 use native.Mathlib.Nat.{le-refl}
 use mathlib.Core.Path.{_≡_, _∙_, subst}
@@ -6,9 +6,9 @@ use borrow.Author.Needs.{needs}
 use borrow.Rule.Slice.PartMut.{mid-len}
 use native.Mathlib.Omega.{arith}
 use lib.ListN.{length}
-use Rattle.share_sheet.specs.Input.{Within}
-use Rattle.share_sheet.proofs.read_input.Statement.{statement}
-use Rattle.share_sheet.proofs.read_input.Tie as tie
+use Rattle.standard_io.specs.Input.{Within}
+use Rattle.standard_io.proofs.read_input.Statement.{statement}
+use Rattle.standard_io.proofs.read_input.Tie as tie
 
 abbrev Inv-loop : tie.InvT-loop
 Inv-loop buffer₀ bytes₀ buffer bytes = (bytes ≤ length buffer) × (length buffer₀ ≡ length buffer)

@@ -1,2 +1,0 @@
--- What the program's reading of its input promises: definitions.
-pub mod Input

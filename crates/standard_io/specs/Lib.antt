@@ -1,0 +1,2 @@
+-- What the reading of the input promises: definitions.
+pub mod Input
