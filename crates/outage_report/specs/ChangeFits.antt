@@ -1,26 +1,23 @@
--- No network's changes have more bytes than `longestChanges`.
-use mathlib.Core.Bool.{true}
-use mathlib.Core.List.{List, [], _∷_, _++_}
+-- The lines of small changes have no more bytes than `longestChanges`.
+use mathlib.Core.List.{List}
 use mathlib.Core.Path.{_≡_}
-use Prim.Native.Nat.{ℕ, suc, _+_, _*_, _^_, _≤_, _<_}
-use native.Mathlib.Nat.{le-refl}
+use Prim.Native.Nat.{ℕ, _+_, _*_, _≤_, _<_}
 use native.Mathlib.Omega.{arith}
 use lib.IntN.{ℤ, pos, negsuc, natAbs}
 use lib.ListN.{length, length-append}
 use lib.Signed.{mag}
+use mir.Syntax.{w64}
+use mir.Val.{toZ, ofZ}
+use mir.ValLaws.{toZ-ofZ}
 use Rattle.lists.specs.SumsBelow.{sumBelow-le, sumBelow-const}
 use Rattle.lists.specs.JoinBelow.{length-joinBelow}
-use Rattle.text.specs.Text.{decimal, signedDecimal}
+use Rattle.signed.specs.Signed.{signedAt}
 use Rattle.text.specs.Decimal.{decimal-le}
 use Rattle.text.specs.SignedDecimal.{signedDecimal-le}
 use Rattle.table_spec.specs.Limits.{maxBuses}
-use Rattle.table_spec.specs.Layout.{busCount, lines}
-use Rattle.table_spec.specs.Holds.{holds}
-use Rattle.table_spec.specs.Facts.{holds-facts}
 use Rattle.share_spec.specs.TableNetwork.{maxDenominator}
-use Rattle.outage_spec.specs.Outage.{change}
-use Rattle.outage_spec.specs.StudyDue.{change-small}
-use Rattle.outage_report.specs.OutageReport.{lineOf, changeLine, changeLines, longestChange, longestChanges}
+use Rattle.outage_report.specs.OutageReport.{lineOf, linesOf}
+use Rattle.outage_report.specs.ChangeRoom.{Small, longestChange, longestChanges}
 
 natAbs-le : (z : ℤ) → natAbs z ≤ mag z + 1
 natAbs-le (pos n) = omega arith
@@ -30,14 +27,19 @@ line-fits : (v : ℕ) (z : ℤ) → v < maxBuses → mag z ≤ 2 * maxDenominato
 line-fits v z b h =
     simp length-append (omega (arith, decimal-le 2 v (omega arith), signedDecimal-le 10 z (omega (arith, natAbs-le z))))
 
--- EVERY LIST OF CHANGES FITS
-pub changes-fit : (t : List ℕ) (k : ℕ) → holds t ≡ true → k < lines t → length (changeLines t k) ≤ longestChanges
-changes-fit t k h b =
-    let n = busCount t in
-    let most = holds-facts t h .shape .complete .most in
+-- THEIR LINES FIT
+pub lines-fit : {changes : List ℤ} → Small changes → length (linesOf changes) ≤ longestChanges
+lines-fit {changes} w =
+    let n = length changes in
+    let text : ℕ → List ℕ = λ v. lineOf v (signedAt changes v) in
     omega (
       arith,
-      length-joinBelow n (changeLine t k),
-      sumBelow-le (λ v. length (changeLine t k v)) (λ v. longestChange) n (λ v l. line-fits v (change t k v) (omega arith) (change-small t h k b v l)),
+      length-joinBelow n text,
+      sumBelow-le (λ v. length (text v)) (λ v. longestChange) n (λ v l. line-fits v (signedAt changes v) (omega (arith, w .most)) (w .each v l)),
       sumBelow-const longestChange n,
+      w .most,
     )
+
+-- and each is read back as it was
+pub small-read : {changes : List ℤ} → Small changes → (v : ℕ) → v < length changes → toZ w64 (ofZ w64 (signedAt changes v)) ≡ signedAt changes v
+small-read w v l = toZ-ofZ w64 _ (record { sfits = omega (arith, w .each v l) })

@@ -2,7 +2,7 @@
 -- Definitions only.
 use mathlib.Core.Bool.{cond}
 use mathlib.Core.List.{List, [], _∷_, _++_}
-use Prim.Native.Nat.{ℕ, _*_}
+use Prim.Native.Nat.{ℕ}
 use lib.Dec.{ltb}
 use lib.IntN.{ℤ}
 use lib.ListN.{length, drop}
@@ -33,14 +33,6 @@ changeLine t k v = lineOf v (change t k v)
 
 abbrev pub changeLines : List ℕ → ℕ → List ℕ
 changeLines t k = joinBelow (busCount t) (changeLine t k)
-
--- bytes that are enough for every line: none has more digits than `511 -10708457761`
-abbrev pub longestChange : ℕ
-longestChange = 17
-
--- and for a line of each bus
-abbrev pub longestChanges : ℕ
-longestChanges = longestChange * maxBuses
 
 -- ---- what is printed
 
