@@ -7,7 +7,15 @@ ghost use Rattle.lists.specs.Lists.{put, WrittenAt};
 ghost use Rattle.table_spec.specs.Holds.{Holds};
 ghost use Rattle.outage_report.specs.OutageReport.{lineOf, linesOf, studied, printed};
 ghost use Rattle.outage_report.specs.ChangeRoom.{Small, longestChanges};
+use file_sections::word;
 use network::Network;
+use network::table::bus_count;
+use outage::AllChanges;
+use outage::study;
+use reader::Reading;
+use reader::Refusal;
+use reader::read;
+use refused_line::write_refusal;
 use text::fill_template;
 use text::signed_decimal;
 
@@ -42,4 +50,34 @@ fn write_changes(changes: &[i64], out: &mut [u8]) -> usize
         bus += 1;
     }
     end
+}
+
+// Writes the changes of all buses when a line goes out, or why the line is refused. The table is not tested.
+fn write_study(table: &[u16], line: usize, out: &mut [u8]) -> usize
+    requires { ⌜ Holds (now table) × (longestChanges ≤ length (now out)) ⌝ }
+    ensures { λ r. ⌜ WrittenAt (studied (now (table .entry)) line) 0 (now (out .entry)) r (now (out .exit)) ⌝ }
+    ensures { λ r. ⌜ r ≤ longestChanges ⌝ }
+{
+    let n = bus_count(table);
+    let mut changes = [0i64; Network::BUSES];
+    match study(table, line, &mut changes) {
+        AllChanges::Over(_) => write_changes(&changes[..n], out),
+        AllChanges::Refused(cause) => write_refusal(cause, out),
+    }
+}
+
+// Writes what the program prints for an input at the front of a buffer, and gives its byte count.
+pub fn report(input: &[u8], out: &mut [u8; LONGEST_CHANGES]) -> usize
+    ensures answer { λ r. ⌜ (r ≡ length (printed (now (input .entry)))) × (r ≤ length (now (out .exit))) ⌝ }
+    ensures text { λ _. ⌜ now (out .exit) ≡ put (now (out .entry)) 0 (printed (now (input .entry))) ⌝ }
+{
+    if input.len() < 2 {
+        return write_refusal(Refusal::FileTooShort, out);
+    }
+    let line = word(input, 0);
+    let mut table = [0u16; Network::ENTRIES];
+    match read(&input[2..], &mut table) {
+        Reading::Accepted(_) => write_study(&table, line, out),
+        Reading::Refused(cause) => write_refusal(cause, out),
+    }
 }
