@@ -1,2 +1,3 @@
--- What the reading of the input promises: definitions.
+-- What the reading of the input promises: definitions, and a law.
 pub mod Input
+pub mod BytesRead
