@@ -78,13 +78,13 @@ module _ (bus : ℕ) (change : ℤ) (t : List ℕ) (i : ℕ) (room : i + length 
 -- ---- the study was lent x and accepted the line; of the entries after it, the first n are the changes
 
 module _ (t : List ℕ) (k : ℕ) (x : List ℤ) {n L : ℕ} {changes : List ℤ} (e : n ≡ busCount t) (a : studyOutcome t k (length x) ≡ gives L) (s : changes ≡ changesAfter t k x) where
-  none : NoneHolds (studyCauses t k (length x))
-  none = no-cause (studyCauses t k (length x)) (denominator (networkOf t)) a .0
+  none : NoneHolds (studyCauses (networkOf t) k (length x))
+  none = no-cause (studyCauses (networkOf t) k (length x)) (denominator (networkOf t)) a .0
 
   front : take n changes ≡ signedBelow (busCount t) (change t k)
   unfolding storedChanges
   front =
-      ap₂ take e (s ∙ ap (valuesOr x) (none-gives (studyCauses t k (length x)) (storedChanges t k x) none))
+      ap₂ take e (s ∙ ap (valuesOr x) (none-gives (studyCauses (networkOf t) k (length x)) (storedChanges t k x) none))
       ∙ take-at (signedBelow (busCount t) (change t k)) _ (busCount t) (length-signedBelow (busCount t) (change t k))
 
   front-at : (v : ℕ) → v < busCount t → signedAt (take n changes) v ≡ change t k v

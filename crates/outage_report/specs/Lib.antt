@@ -4,6 +4,5 @@ pub mod Examples
 pub mod ChangeRoom
 pub mod ChangeFits
 pub mod ChangeWriting
-pub mod SameStudy
 pub mod Printing
 pub mod PrintedFront
