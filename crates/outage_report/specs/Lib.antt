@@ -4,5 +4,6 @@ pub mod Examples
 pub mod ChangeRoom
 pub mod ChangeFits
 pub mod ChangeWriting
+pub mod StoredChanges
 pub mod Printing
 pub mod PrintedFront

@@ -1,53 +1,67 @@
 -- `outage_report::write_study` meets its contract.
 use borrow.Author.Needs.{needs}
 use native.Mathlib.Omega.{arith}
+use mathlib.Core.List.{List}
 use mathlib.Core.Path.{_≡_, sym, ap, _∙_}
 use lib.IntN.{ℤ, pos}
-use lib.ListN.{length, replicate, length-replicate}
+use lib.ListN.{length, take, replicate, length-replicate}
 use Rattle.refusals.specs.Outcomes.{gives}
 use Rattle.table_spec.specs.Limits.{maxBuses}
+use Rattle.table_spec.specs.Layout.{busCount}
 use Rattle.outage_spec.specs.StudyOutcome.{studyOutcome}
 use Rattle.outage.specs.StudyAnswers.{outcomeOfStudy}
-use Rattle.outage_report.specs.ChangeWriting.{front-long, front-small, front-lines}
+use Rattle.outage_report.specs.OutageReport.{linesOf, studied}
+use Rattle.outage_report.specs.ChangeRoom.{Small}
+use Rattle.outage_report.specs.StoredChanges.{front-long, front-small, front-lines}
 use Rattle.outage_report.specs.Printing.{print-changes, print-refused-line}
 use Rattle.outage_report.proofs.write_study.Statement.{statement}
 use Rattle.outage_report.proofs.write_study.Tie as tie
 
-room : length (replicate {A = ℤ} maxBuses (pos 0)) ≡ maxBuses
+abbrev lent : List ℤ
+lent = replicate maxBuses (pos 0)
+
+room : length lent ≡ maxBuses
 room = length-replicate {A = ℤ} maxBuses (pos 0)
 
 study-requires : tie.Need-study-requires
 study-requires c κs = c .before .before .before .before .pre .0
 
--- the study accepted the line
+-- the study accepted the line: the changes are stored
 module _ (c : tie.After-enum-told) where
-  abbrev start : tie.Start
-  start = c .before .before .before .before .before .before .before .before
+  abbrev studying : tie.After-study
+  studying = c .before .before .before
 
-  accepted : studyOutcome (start .args .table .now) (start .args .line) (length (replicate {A = ℤ} maxBuses (pos 0))) ≡ gives (c .enum-told .given .0 .0)
-  accepted = sym (c .before .before .before .study .ensures .0) ∙ ap outcomeOfStudy (c .enum-told .given .1)
+  abbrev counting : tie.After-bus-count
+  counting = studying .before .before
+
+  abbrev start : tie.Start
+  start = counting .before .before .before
+
+  abbrev stored : List ℤ
+  stored = take (counting .bus-count .result) (studying .study .last .1 .1 .0)
+
+  accepted : studyOutcome (start .args .table .now) (start .args .line) (length lent) ≡ gives (c .enum-told .given .0 .0)
+  accepted = sym (studying .study .ensures .0) ∙ ap outcomeOfStudy (c .enum-told .given .1)
+
+  long : length stored ≡ busCount (start .args .table .now)
+  long = front-long (start .args .table .now) (start .args .line) lent (counting .bus-count .ensures .0) accepted (studying .study .ensures .1)
+
+  small : Small stored
+  small = front-small (start .args .table .now) (start .args .line) lent (counting .bus-count .ensures .0) accepted (studying .study .ensures .1)
+
+  text : linesOf stored ≡ studied (start .args .table .now) (start .args .line)
+  text =
+      front-lines (start .args .table .now) (start .args .line) lent (counting .bus-count .ensures .0) accepted (studying .study .ensures .1)
+      ∙ print-changes (start .args .table .now) (start .args .line) room accepted
 
 slice-aggregate-write-changes : tie.Need-slice-aggregate-write-changes
-slice-aggregate-write-changes c =
-    let e = c .before in
-    let n = e .before .before .before .before .before .bus-count .ensures .0 in
-    omega (arith, n, front-long (start e .args .table .now) (start e .args .line) (replicate maxBuses (pos 0)) n (accepted e) (e .before .before .before .study .ensures .1))
+slice-aggregate-write-changes c = omega (arith, counting (c .before) .bus-count .ensures .0, long (c .before))
 
 write-changes-requires : tie.Need-write-changes-requires
-write-changes-requires c κs =
-    let e = c .before .before in
-    let n = e .before .before .before .before .before .bus-count .ensures .0 in
-    (front-small (start e .args .table .now) (start e .args .line) (replicate maxBuses (pos 0)) n (accepted e) (e .before .before .before .study .ensures .1), start e .pre .1)
+write-changes-requires c κs = let e = c .before .before in (small e, start e .pre .1)
 
 returns : tie.Need-returns
-returns c =
-    let w = c .before .before in
-    let e = w .before .before .before in
-    let n = e .before .before .before .before .before .bus-count .ensures .0 in
-    let t = start e .args .table .now in
-    let k = start e .args .line in
-    let p = front-lines t k (replicate maxBuses (pos 0)) n (accepted e) (e .before .before .before .study .ensures .1) ∙ print-changes t k room (accepted e) in
-    (rw p at (w .write-changes .ensures .0), w .write-changes .ensures .1)
+returns c = let w = c .before .before in (rw (text (w .before .before .before)) at (w .write-changes .ensures .0), w .write-changes .ensures .1)
 
 returns-2 : tie.Need-returns-2
 returns-2 c =
