@@ -1,19 +1,18 @@
 -- What work functions ask for: changes that are small, and room for their lines. Definitions only.
 use mathlib.Core.List.{List}
 use Prim.Native.Nat.{ℕ, _*_, _≤_, _<_}
-use lib.IntN.{ℤ}
+use lib.IntN.{ℤ, natAbs}
 use lib.ListN.{length}
-use lib.Signed.{mag}
 use Rattle.signed.specs.Signed.{signedAt}
 use Rattle.table_spec.specs.Limits.{maxBuses}
 use Rattle.share_spec.specs.TableNetwork.{maxDenominator}
 
--- none of at most 512 changes is above 2 L, or below -2 L by more than 1, for the largest L
+-- at most 512 changes, none above 2 L or below -2 L for the largest L
 pub record Small (changes : List ℤ) : Type 0 where
   pub most : length changes ≤ maxBuses
-  pub each : (v : ℕ) → v < length changes → mag (signedAt changes v) ≤ 2 * maxDenominator
+  pub each : (v : ℕ) → v < length changes → natAbs (signedAt changes v) ≤ 2 * maxDenominator
 
--- bytes that are enough for the line of every such change: none has more digits than `511 -10708457761`
+-- bytes that are enough for the line of every such change: none is longer than `511 -10708457760`
 abbrev pub longestChange : ℕ
 longestChange = 17
 

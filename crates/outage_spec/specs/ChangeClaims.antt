@@ -17,6 +17,7 @@ use Rattle.lists.specs.Counts.{has-in, has-none}
 use Rattle.lists.specs.Without.{of-without}
 use Rattle.signed.specs.Signed.{difference, totalBelow}
 use Rattle.signed.specs.Differences.{difference-none, difference-scale, total-difference}
+use Rattle.signed.specs.SignedBits.{mag-le}
 use Rattle.game.specs.Orders.{factorial}
 use Rattle.table_spec.specs.Layout.{busCount, row, need}
 use Rattle.table_spec.specs.Holds.{Holds}
@@ -72,4 +73,4 @@ module _ {t : List ℕ} (w : Holds t) {a b : ℕ} (line : Line t a b) (L : ℕ) 
 
   -- A CHANGE FITS: each end moves no more than L
   pub change-fits : Over t L → Over (withoutPair t a b) L → (v : ℕ) → v < busCount t → SFits w64 (changeOver (networkOf t) (networkOf (withoutPair t a b)) L v)
-  change-fits o p v l = record { sfits = omega (arith, change-le w line L o p v l, o .bounded) }
+  change-fits o p v l = record { sfits = omega (arith, mag-le (changeOver (networkOf t) (networkOf (withoutPair t a b)) L v), change-le w line L o p v l, o .bounded) }

@@ -3,11 +3,11 @@ use mathlib.Core.List.{List, [], _∷_}
 use mathlib.Core.Path.{_≡_, sym, ap, ap₂, subst, _∙_}
 use Prim.Native.Nat.{ℕ, _+_, _*_, _≤_, _<_}
 use native.Mathlib.Omega.{arith}
-use lib.Signed.{mag}
+use lib.IntN.{natAbs}
 use Rattle.lists.specs.Lists.{without}
 use Rattle.lists.specs.SumsBelow.{sumBelow-but-two}
 use Rattle.signed.specs.Signed.{difference}
-use Rattle.signed.specs.Differences.{difference-same, difference-mag}
+use Rattle.signed.specs.Differences.{difference-same, difference-abs}
 use Rattle.table_spec.specs.Layout.{busCount, row, need}
 use Rattle.table_spec.specs.Holds.{Holds}
 use Rattle.share_spec.specs.Formula.{numeratorOver}
@@ -91,7 +91,6 @@ module _ {t : List ℕ} (w : Holds t) {a b : ℕ} (line : Line t a b) (L : ℕ) 
         )
 
     -- so no change is above 2 L or below -2 L
-    pub change-le : (v : ℕ) → v < busCount t → mag (changeOver (networkOf t) (networkOf s) L v) ≤ 2 * L
+    pub change-le : (v : ℕ) → v < busCount t → natAbs (changeOver (networkOf t) (networkOf s) L v) ≤ 2 * L
     change-le v l =
-        let small = difference-mag (2 * L + 1) (endsWithout v) (endsWith v) (omega (arith, ends-without-le v)) (omega (arith, ends-with-le v)) in
-        omega (arith, subst (λ z. mag z < 2 * L + 1) (sym (change-by-ends v l)) small)
+        subst (λ z. natAbs z ≤ 2 * L) (sym (change-by-ends v l)) (difference-abs (2 * L) (endsWithout v) (endsWith v) (ends-without-le v) (ends-with-le v))

@@ -6,9 +6,8 @@ use Prim.Native.Nat.{ℕ, _*_, _≤_, _<_}
 use native.Mathlib.Omega.{arith}
 use borrow.Author.Tests.{lt-ltb, le-ltb}
 use lib.Dec.{ltb}
-use lib.IntN.{ℤ, pos, _*ℤ_}
+use lib.IntN.{ℤ, pos, natAbs, _*ℤ_}
 use lib.ListN.{length, drop, List·getD-append}
-use lib.Signed.{mag}
 use Rattle.signed.specs.Signed.{signedBelow, signedAt}
 use Rattle.signed.specs.SignedLists.{length-signedBelow, signedBelow-at, totalBelow-same}
 use Rattle.refusals.specs.declared.Refusal.the-variants.{NumeratorsTooShort}
@@ -80,7 +79,7 @@ module _ (t : List ℕ) (h : holds t ≡ true) (k : ℕ) (b : k < lines t) where
   line-over e = (own-over (held .shape) e, weak-over held (line-named held k b) e)
 
   -- NO CHANGE IS ABOVE 2 L OR BELOW -2 L
-  pub change-small : (v : ℕ) → v < busCount t → mag (change t k v) ≤ 2 * maxDenominator
+  pub change-small : (v : ℕ) → v < busCount t → natAbs (change t k v) ≤ 2 * maxDenominator
   change-small v l =
       let o = line-over refl in
       omega (arith, change-le held (line-named held k b) (denominator (networkOf t)) (o .0) (o .1) v l, o .0 .bounded)

@@ -4,7 +4,7 @@ use mathlib.Core.Path.{_≡_, refl, sym, ap, ap₂, _∙_}
 use Prim.Native.Nat.{ℕ, zero, suc, _+_, _-_, _*_, _^_, _≤_, _<_}
 use native.Mathlib.Omega.{arith}
 use lib.Dec.{ltb}
-use lib.IntN.{pos, negsuc, negℤ, subℕ, _+ℤ_, _*ℤ_, +ℤ-idr}
+use lib.IntN.{natAbs, pos, negsuc, negℤ, subℕ, _+ℤ_, _*ℤ_, +ℤ-idr}
 use lib.Signed.{mag}
 use mir.Syntax.{w64}
 use mir.Val.{SFits}
@@ -85,9 +85,15 @@ difference-scale k a b =
     let e : a ≡ m + b = omega arith in
     ap (λ z. pos k *ℤ z) (above a b h) ∙ sym (difference-pos (k * m)) ∙ difference-same (k * m) 0 (k * a) (k * b) (omega (arith, ap (λ x. k * x) e)))
 
--- a difference is as small as its parts
+-- a difference is as small as its parts, as the machine measures it, and without its sign
 pub difference-mag : (m a b : ℕ) → a < m → b < m → mag (difference a b) < m
 difference-mag m a b p q =
+    split (ltb a b)
+    (λ t. let h = ltb-true a b t in rw (below a b h) (omega arith))
+    (λ t. let h = ltb-false a b t in rw (above a b h) (omega arith))
+
+pub difference-abs : (m a b : ℕ) → a ≤ m → b ≤ m → natAbs (difference a b) ≤ m
+difference-abs m a b p q =
     split (ltb a b)
     (λ t. let h = ltb-true a b t in rw (below a b h) (omega arith))
     (λ t. let h = ltb-false a b t in rw (above a b h) (omega arith))

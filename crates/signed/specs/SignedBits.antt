@@ -1,7 +1,7 @@
 -- Signed numbers as code has them: a local holds bits, `ofZ`, and reads them back, `toZ`; what fits is read back as it was.
 use mathlib.Core.Bool.{true, false, not, true≢false}
 use mathlib.Core.Path.{_≡_, refl, sym, ap, ap₂, subst, _∙_}
-use Prim.Native.Nat.{ℕ, suc, _+_, _-_, _^_, _<_}
+use Prim.Native.Nat.{ℕ, suc, _+_, _-_, _^_, _≤_, _<_}
 use native.Mathlib.Omega.{arith}
 use borrow.Author.Tests.{le-ltb}
 use lib.Dec.{T}
@@ -31,6 +31,10 @@ module _ (a b : ℕ) (p : a < 2 ^ 63) (q : b < 2 ^ 63) where
   read-back e = rw e (toZ-ofZ w64 (difference a b) (difference-fits a b p q))
 
 -- ---- a signed number taken apart: its sign and its magnitude
+
+pub mag-le : (x : ℤ) → mag x ≤ natAbs x
+mag-le (pos n) = omega arith
+mag-le (negsuc n) = omega arith
 
 sign : (x : ℤ) → ltZ x (pos 0) ≡ not (nonNeg x)
 sign (pos n) = le-ltb n 0 (omega arith)
