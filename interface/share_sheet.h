@@ -26,16 +26,17 @@
      9  the denominator is 0
     10  too few entries are lent for the table
     11  the table lent holds no network
-    12  too few entries are lent for the numerators
+    12  too few entries are lent for the numerators or changes
     13  the network does not have the bus, or the sheet does not have the line
     14  too few bytes are lent for the text
     15  the first bus of a record is above its second, or a record is below the one before it
     16  too few bytes are lent for the file
     17  a need is above its bus's degree, and is not 1 at a bus without lines
+    18  the network does not have the line
 
    No call allocates memory or keeps anything for the next one. share_sheet_whole takes some 30 KB
-   of stack, each other call less than 8. Calls may run at the same time, as long as none writes
-   what another uses. */
+   of stack, share_sheet_outage some 9, each other call less than 8. Calls may run at the same
+   time, as long as none writes what another uses. */
 
 #ifndef SHARE_SHEET_H
 #define SHARE_SHEET_H
@@ -87,6 +88,19 @@ uint32_t share_sheet_shares(const uint16_t *table, size_t table_len, uint64_t *n
 uint32_t share_sheet_share(const uint16_t *table, size_t table_len, size_t bus,
                            uint64_t *numerator, uint64_t *over);
 
+/* Stores what the loss of a line does to the share of each of the n buses, bus 0 first: its
+   numerator without the line less its numerator with it, below zero where it falls. All are over
+   the denominator of the full network, which the call gives, also where the network without the
+   line has a smaller one. Later entries of `changes` are left as they were. Lines are numbered
+   from 0 in ascending order of their pairs, the lower bus of a pair first: by lower bus, then by
+   upper. That is the order of records in the file that share_sheet_write writes. Parallel circuits
+   are one line and go out together. Where a need exceeds the degree without the line, the bus is
+   then seen by its own recorder only. The changes add up to 0, and a bus that is neither an end of
+   the line nor a neighbour of an end has 0. Refused with 11, then with 18 if `line` is m or above,
+   then with 12 if fewer than n entries are lent. */
+uint32_t share_sheet_outage(const uint16_t *table, size_t table_len, size_t line, int64_t *changes,
+                            size_t changes_len, uint64_t *over);
+
 /* Gives a fraction in lowest terms; 0 over anything above 0 is 0/1. Refused with 9 if the
    denominator is 0. */
 uint32_t share_sheet_cancel(uint64_t numerator, uint64_t denominator, uint64_t *top,
@@ -105,7 +119,7 @@ uint32_t share_sheet_line(const uint16_t *table, size_t table_len, size_t line, 
 uint32_t share_sheet_whole(const uint16_t *table, size_t table_len, uint8_t *text,
                            size_t text_len, size_t *bytes);
 
-/* The most buses that a network may have: so many numerators are always enough. */
+/* The most buses that a network may have: so many numerators or changes are always enough. */
 size_t share_sheet_max_buses(void);
 
 /* The entries of the largest line table: so many are always enough. */

@@ -31,6 +31,7 @@ int main(void)
 {
     uint16_t table[12];
     uint64_t numerators[3], p, q;
+    int64_t changes[4] = {7, 7, 7, 7};
     uint8_t text[64];
     size_t a, b;
 
@@ -44,6 +45,14 @@ int main(void)
     EXPECT(share_sheet_shares(table, 12, numerators, 2, &p), 12);
     EXPECT(share_sheet_share(table, 12, 1, &p, &q), 0);
     EXPECT(share_sheet_share(table, 12, 3, &p, &q), 13);
+    EXPECT(share_sheet_outage(table, 12, 2, changes, 4, &p), 18);
+    EXPECT(share_sheet_outage(table, 12, 2, changes, 2, &p), 18);
+    EXPECT(share_sheet_outage(table, 12, 1, changes, 2, &p), 12);
+    EXPECT(share_sheet_outage(none, 12, 2, changes, 0, &p), 11);
+    EXPECT((uint32_t)(changes[0] == 7 && changes[1] == 7 && changes[2] == 7), 1);
+    EXPECT(share_sheet_outage(table, 12, 0, changes, 4, &p), 0);
+    EXPECT((uint32_t)(changes[0] == 1 && changes[1] == -2 && changes[2] == 1), 1);
+    EXPECT((uint32_t)(changes[3] == 7 && p == 6), 1);
     EXPECT(share_sheet_cancel(8, 6, &p, &q), 0);
     EXPECT(share_sheet_cancel(8, 0, &p, &q), 9);
     EXPECT(share_sheet_line(table, 12, 1, text, 64, &a), 0);

@@ -3,8 +3,9 @@
 //!
 //! The calls are those of the proved library share_sheet_c, made safe. A network is lent as a
 //! *line table*: a slice of `u16` that [`read`] fills from a network file, or that the caller
-//! builds; [`write`](fn@write) makes a network file from either. `docs/FORMAT.md` of the
-//! repository explains file, table, shares and sheet.
+//! builds; [`write`](fn@write) makes a network file from either. [`shares`] scores it, and
+//! [`outage`] tells what the loss of a line changes. `docs/FORMAT.md` of the repository explains
+//! file, table, shares, outage study and sheet.
 //!
 //! Nothing is allocated here, and nothing is kept between calls: callers lend the slices, and
 //! [`limits`] gives lengths that are always enough. A refused call gives a [`Refusal`] and
@@ -87,7 +88,8 @@ impl fmt::Display for Fraction {
 /// ```
 #[derive(Clone, Copy, Debug, PartialEq, Eq, Hash)]
 pub struct Limits {
-    /// The most buses that a network may have: numerators that are enough for [`shares`].
+    /// The most buses that a network may have: numerators that are enough for [`shares`], and
+    /// changes for [`outage`].
     pub buses: usize,
     /// The entries of the largest line table: enough for [`read`].
     pub entries: usize,
@@ -332,6 +334,51 @@ pub fn share(table: &[u16], bus: usize) -> Result<Fraction, Refusal> {
     };
     refusal::accepted(number)?;
     Ok(share)
+}
+
+/// Stores what the loss of a line does to the share of each bus, bus 0 first, and gives the
+/// denominator that all changes are over.
+///
+/// A change is the bus's numerator without the line less its numerator with it, both over the
+/// denominator that [`shares`] gives for the full network. Lines are numbered from 0 in ascending
+/// order of their pairs, the lower bus of a pair first: by lower bus, then by upper. That is the
+/// order of records in the file that [`write`](fn@write) writes. Parallel circuits are one line and
+/// go out together. Where a need exceeds the degree without the line, the bus is then seen by its
+/// own recorder only.
+///
+/// The n changes add up to zero, and a bus that is neither an end of the line nor a neighbour of an
+/// end has zero. Entries behind those of the n buses are left as they were. Refused with
+/// [`NoNetwork`](Refusal::NoNetwork), then with [`NoSuchLine`](Refusal::NoSuchLine), then with
+/// [`NumeratorsTooShort`](Refusal::NumeratorsTooShort).
+///
+/// ```
+/// use share_sheet::{outage, Refusal};
+///
+/// // three buses in a row; line 0 joins buses 0 and 1, line 1 joins 1 and 2
+/// let path = [3, 1, 1, 1, 0, 1, 3, 4, 1, 0, 2, 1];
+/// let mut changes = [0; 4];
+/// assert_eq!(outage(&path, 0, &mut changes), Ok(6));
+/// // without it the numerators are 6, 6, 6; with it they are 5, 8, 5
+/// assert_eq!(changes, [1, -2, 1, 0]);
+///
+/// assert_eq!(outage(&path, 2, &mut changes), Err(Refusal::NoSuchLine));
+/// assert_eq!(outage(&path, 1, &mut changes[..2]), Err(Refusal::NumeratorsTooShort));
+/// ```
+pub fn outage(table: &[u16], line: usize, changes: &mut [i64]) -> Result<u64, Refusal> {
+    let mut over = 0;
+    // SAFETY: as in `read`.
+    let number = unsafe {
+        raw::share_sheet_outage(
+            table.as_ptr(),
+            table.len(),
+            line,
+            changes.as_mut_ptr(),
+            changes.len(),
+            &mut over,
+        )
+    };
+    refusal::accepted(number)?;
+    Ok(over)
 }
 
 /// Gives a fraction in lowest terms.

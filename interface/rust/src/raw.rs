@@ -50,6 +50,15 @@ extern "C" {
         over: *mut u64,
     ) -> u32;
 
+    pub fn share_sheet_outage(
+        table: *const u16,
+        table_len: usize,
+        line: usize,
+        changes: *mut i64,
+        changes_len: usize,
+        over: *mut u64,
+    ) -> u32;
+
     pub fn share_sheet_cancel(
         numerator: u64,
         denominator: u64,
@@ -244,6 +253,34 @@ mod tests {
         assert_eq!(share(&TABLE, 1), (0, 8, 6));
         assert_eq!(share(&TABLE, 3), (13, C, D));
         assert_eq!(share(&NONE, 1), (11, C, D));
+    }
+
+    #[test]
+    fn denominator_of_changes() {
+        let outage = |table: &[u16], line, changes: &mut [i64]| {
+            let mut over = C;
+            // SAFETY: as in `read`.
+            let number = unsafe {
+                share_sheet_outage(
+                    table.as_ptr(),
+                    table.len(),
+                    line,
+                    changes.as_mut_ptr(),
+                    changes.len(),
+                    &mut over,
+                )
+            };
+            (number, over)
+        };
+        let mut changes = [7; 4];
+        assert_eq!(outage(&TABLE, 2, &mut changes), (18, C));
+        assert_eq!(outage(&TABLE, usize::MAX, &mut changes[..2]), (18, C));
+        assert_eq!(outage(&TABLE, 1, &mut changes[..2]), (12, C));
+        assert_eq!(outage(&NONE, 0, &mut changes), (11, C));
+        assert_eq!(outage(&NONE, 2, &mut []), (11, C));
+        assert_eq!(changes, [7; 4]);
+        assert_eq!(outage(&TABLE, 0, &mut changes), (0, 6));
+        assert_eq!(changes, [1, -2, 1, 7]);
     }
 
     #[test]

@@ -39,7 +39,7 @@ pub enum Refusal {
     TableTooShort,
     /// The table lent holds no network.
     NoNetwork,
-    /// Too few entries are lent for the numerators.
+    /// Too few entries are lent for the numerators or changes.
     NumeratorsTooShort,
     /// The network does not have the bus, or the sheet does not have the line.
     NoSuchBus,
@@ -51,6 +51,8 @@ pub enum Refusal {
     BytesTooShort,
     /// A need is above its bus's degree, and the bus is not one without lines that has need 1.
     NeedAboveDegree,
+    /// The network does not have the line.
+    NoSuchLine,
 }
 
 impl Refusal {
@@ -80,7 +82,7 @@ impl Refusal {
             Refusal::NoDenominator => "the denominator is 0",
             Refusal::TableTooShort => "too few entries are lent for the table",
             Refusal::NoNetwork => "the table lent holds no network",
-            Refusal::NumeratorsTooShort => "too few entries are lent for the numerators",
+            Refusal::NumeratorsTooShort => "too few entries are lent for the numerators or changes",
             Refusal::NoSuchBus => {
                 "the network does not have the bus, or the sheet does not have the line"
             }
@@ -93,6 +95,7 @@ impl Refusal {
             Refusal::NeedAboveDegree => {
                 "a need is above its bus's degree, and is not 1 at a bus without lines"
             }
+            Refusal::NoSuchLine => "the network does not have the line",
         }
     }
 }
@@ -125,6 +128,7 @@ pub(crate) fn accepted(status: u32) -> Result<(), Refusal> {
         15 => Refusal::OutOfOrder,
         16 => Refusal::BytesTooShort,
         17 => Refusal::NeedAboveDegree,
+        18 => Refusal::NoSuchLine,
         _ => panic!("share_sheet_c returned {status}, which stands for no refusal"),
     })
 }
@@ -138,7 +142,7 @@ mod tests {
     fn every_number_has_a_refusal_and_words_of_its_own() {
         assert_eq!(accepted(0), Ok(()));
         let mut words = HashSet::new();
-        for number in (1..=17).filter(|&number| number != 8) {
+        for number in (1..=18).filter(|&number| number != 8) {
             let refused = accepted(number).unwrap_err();
             assert_eq!(u32::from(refused.number()), number);
             assert!(words.insert(refused.words()), "{refused}");
@@ -147,9 +151,9 @@ mod tests {
     }
 
     #[test]
-    #[should_panic(expected = "returned 18")]
+    #[should_panic(expected = "returned 19")]
     fn an_unknown_number_is_no_refusal() {
-        let _ = accepted(18);
+        let _ = accepted(19);
     }
 
     #[test]
