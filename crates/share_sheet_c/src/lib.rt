@@ -1,4 +1,4 @@
-// The library for C, and for languages that call C: each call of the scope, the file writer, the whole sheet and the sizes that are enough, on numbers, slices and lent places.
+// The library for C, and for languages that call C: each call of the scope, the file writer, the outage study, the whole sheet and the sizes that are enough, on numbers, slices and lent places.
 // A call gives a 32-bit status: 0, or the scope's number where it is refused. Values are handed back through lent places, which a refused call leaves as they were.
 ghost use mathlib.Core.Path.{_≡_};
 ghost use lib.ListN.{length};
@@ -9,6 +9,7 @@ ghost use Rattle.read_spec.specs.ReadOutcome.{readOutcome, tableAfter, Recorded
 ghost use Rattle.write_spec.specs.WriteOutcome.{writeOutcome, bytesAfter};
 ghost use Rattle.two_way.specs.TwoWay.{networkOf};
 ghost use Rattle.share_spec.specs.ShareOutcomes.{sharesOutcome, numeratorsAfter, AllFair, shareOutcome, OneFair};
+ghost use Rattle.outage_spec.specs.StudyOutcome.{studyOutcome, changesAfter, AllStudied};
 ghost use Rattle.fraction.specs.Cancel.{cancelOutcome, CancelRule};
 ghost use Rattle.sheet.specs.LineOutcomes.{lineOutcome, lineAfter};
 ghost use Rattle.whole_sheet.specs.WholeSheet.{sheetOutcome, sheetAfter};
@@ -16,6 +17,7 @@ ghost use Rattle.whole_sheet.specs.SheetRoom.{longestSheet};
 ghost use Rattle.share_sheet_c.specs.Status.{ByStatus, outcomeOfStatus, counted};
 use fraction::Cancelled;
 use network::Network;
+use outage::AllChanges;
 use reader::Reading;
 use refusals::Refusal;
 use refusals::Written;
@@ -142,6 +144,27 @@ pub extern "C" fn share_sheet_share(
     }
 }
 
+// Stores the changes of all buses when a line goes out, and gives L.
+#[no_mangle]
+pub extern "C" fn share_sheet_outage(
+    table: &[u16],
+    line: usize,
+    changes: &mut [i64],
+    over: &mut u64,
+) -> u32
+    ensures answer { λ r. ⌜ ByStatus (studyOutcome (now (table .entry)) line (length (now (changes .entry)))) (now (over .entry)) r (now (over .exit)) ⌝ }
+    ensures stored { λ _. ⌜ now (changes .exit) ≡ changesAfter (now (table .entry)) line (now (changes .entry)) ⌝ }
+    ensures fair { λ r. ⌜ AllStudied (now (table .entry)) line (length (now (changes .entry))) (outcomeOfStatus r (now (over .exit))) (now (changes .exit)) ⌝ }
+{
+    match outage::changes(table, line, changes) {
+        AllChanges::Refused(cause) => status(cause),
+        AllChanges::Over(common) => {
+            *over = common;
+            0
+        }
+    }
+}
+
 // Gives a fraction in lowest terms.
 #[no_mangle]
 pub extern "C" fn share_sheet_cancel(
@@ -198,7 +221,7 @@ pub extern "C" fn share_sheet_whole(table: &[u16], text: &mut [u8], bytes: &mut 
     }
 }
 
-// The most buses of a network: as many numerators are enough for each.
+// The most buses of a network: as many numerators or changes are enough for each.
 #[no_mangle]
 pub extern "C" fn share_sheet_max_buses() -> usize
     ensures { λ r. ⌜ r ≡ maxBuses ⌝ }
