@@ -1,8 +1,8 @@
-//! The bench cases of the scope, starred ones included, and of orders 1 to 5, through the boundary.
+//! The bench cases of the scope, starred ones included, and of orders 1 to 6, through the boundary.
 
 use share_sheet::{
-    cancel, degree, limits, read, row, share, shares, sheet_line, whole_sheet, write, Counts,
-    Fraction, Limits, Refusal,
+    cancel, degree, limits, outage, read, row, share, shares, sheet_line, whole_sheet, write,
+    Counts, Fraction, Limits, Refusal,
 };
 
 /// Three buses in a row, each with need 1.
@@ -74,6 +74,19 @@ fn refuses(file: &[u8], number: u8) {
     assert_eq!(read(file, &mut marks).map_err(Refusal::number), Err(number));
     assert!(marks.iter().all(|&mark| mark == 0xA5A5));
     assert_eq!(read(file, &mut []).map_err(Refusal::number), Err(number));
+}
+
+/// Tests that the changes when a file's line goes out are `changes` over `over`. Entries behind
+/// them stay; with an entry less it is refused, and all entries stay.
+fn studies(file: &[u8], line: usize, over: u64, changes: &[i64]) {
+    let table = table(file);
+    let mut lent = vec![7; changes.len() + 2];
+    let short = changes.len() - 1;
+    assert_eq!(outage(&table, line, &mut lent[..short]), Err(Refusal::NumeratorsTooShort));
+    assert!(lent.iter().all(|&entry| entry == 7));
+    assert_eq!(outage(&table, line, &mut lent), Ok(over));
+    assert_eq!(lent, [changes, &[7, 7]].concat());
+    assert_eq!(changes.iter().sum::<i64>(), 0);
 }
 
 #[test]
@@ -339,8 +352,75 @@ fn written_parallel_circuits() {
 }
 
 #[test]
+fn outages_of_path() {
+    studies(&PATH, 0, 6, &[1, -2, 1]);
+    studies(&PATH, 1, 6, &[1, -2, 1]);
+    // bus 1 needs both neighbours: with one it is seen by its own recorder only
+    studies(&file(&[1, 2, 1], &[(0, 1), (1, 2)]), 0, 6, &[2, -1, -1]);
+    studies(&file(&[1, 2, 1], &[(0, 1), (1, 2)]), 1, 6, &[-1, -1, 2]);
+    // parallel circuits go out together, and count once
+    let parallel = file(&[1; 3], &[(0, 1), (0, 1), (0, 1), (1, 2)]);
+    studies(&parallel, 0, 6, &[1, -2, 1]);
+    studies(&parallel, 1, 6, &[1, -2, 1]);
+
+    let mut lent = [7; 3];
+    for line in [2, 3, 65536, 1 << 32, usize::MAX] {
+        assert_eq!(outage(&table(&parallel), line, &mut lent), Err(Refusal::NoSuchLine));
+        // 18 comes before 12
+        assert_eq!(outage(&PATH_TABLE, line, &mut lent[..2]), Err(Refusal::NoSuchLine));
+    }
+    // one bus has no line at all
+    assert_eq!(outage(&[1, 1, 0, 0], 0, &mut lent), Err(Refusal::NoSuchLine));
+    assert_eq!(lent, [7; 3]);
+}
+
+/// A star loses the line to a leaf. Over 24 × 23 = 552 its centre has 277/24 or 6,371 before, and
+/// 11 + 1/23 or 6,096 then; the leaf has 13/24 or 299, and then 552; each other leaf gets 1/24 or
+/// 23 from the centre, and then 1/23 or 24.
+#[test]
+fn outages_of_a_star() {
+    let over = 5_354_228_880;
+    let part = over as i64 / 552;
+    for line in [0, 11, 22] {
+        let mut changes = vec![part; 24];
+        changes[0] = -275 * part;
+        changes[1 + line] = 253 * part;
+        studies(&star(24), line, over, &changes);
+    }
+    assert_eq!(outage(&table(&star(24)), 23, &mut [0; 24]), Err(Refusal::NoSuchLine));
+
+    // the centre needs all of its neighbours. Before it has 23/24 of its own and gives each 1/552;
+    // with one less it has 1 and gives none, since its need is above its degree
+    let lines: Vec<_> = (1..24).map(|leaf| (0, leaf)).collect();
+    let needs = [&[23][..], &[1; 23]].concat();
+    let mut changes = vec![-part; 24];
+    changes[0] = (23 - 276) * part;
+    changes[23] = (276 - 1) * part;
+    studies(&file(&needs, &lines), 22, over, &changes);
+}
+
+/// Lines are numbered by lower bus, then by upper, whatever stands in the rows; and each of these
+/// studies has a bus that is neither an end nor a neighbour of one.
+#[test]
+fn outages_by_line_number() {
+    // a pair and a row of three: 0 - 4, and 1 - 2 - 3
+    let apart = file(&[1; 5], &[(0, 4), (1, 2), (2, 3)]);
+    studies(&apart, 0, 6, &[0, 0, 0, 0, 0]);
+    studies(&apart, 1, 6, &[0, 1, -2, 1, 0]);
+    studies(&apart, 2, 6, &[0, 1, -2, 1, 0]);
+    // a ring of six buses: without a line its ends have degree 1, give their neighbour 1/2 in place
+    // of 1/3, and have 1/2 of their own in place of 1/3
+    let ring = file(&[1; 6], &[(0, 1), (0, 5), (1, 2), (2, 3), (3, 4), (4, 5)]);
+    studies(&ring, 0, 6, &[-1, -1, 1, 0, 0, 1]);
+    studies(&ring, 1, 6, &[-1, 1, 0, 0, 1, -1]);
+    studies(&ring, 3, 6, &[0, 1, -1, -1, 1, 0]);
+    studies(&ring, 5, 6, &[1, 0, 0, 1, -1, -1]);
+}
+
+#[test]
 fn no_network() {
     let mut numerators = [7; 3];
+    let mut changes = [7; 3];
     let mut text = [7; 80];
     for table in [&[][..], &PATH_TABLE[..11], &[0; 12]] {
         assert_eq!(degree(table, 0), Err(Refusal::NoNetwork));
@@ -348,6 +428,8 @@ fn no_network() {
         assert_eq!(shares(table, &mut numerators), Err(Refusal::NoNetwork));
         assert_eq!(shares(table, &mut []), Err(Refusal::NoNetwork));
         assert_eq!(share(table, 0), Err(Refusal::NoNetwork));
+        assert_eq!(outage(table, 0, &mut changes), Err(Refusal::NoNetwork));
+        assert_eq!(outage(table, 9, &mut []), Err(Refusal::NoNetwork));
         assert_eq!(sheet_line(table, 0, &mut text), Err(Refusal::NoNetwork));
         assert_eq!(sheet_line(table, 9, &mut []), Err(Refusal::NoNetwork));
         assert_eq!(whole_sheet(table, &mut text), Err(Refusal::NoNetwork));
@@ -356,6 +438,7 @@ fn no_network() {
         assert_eq!(write(table, &mut []), Err(Refusal::NoNetwork));
     }
     assert_eq!(numerators, [7; 3]);
+    assert_eq!(changes, [7; 3]);
     assert_eq!(text, [7; 80]);
 }
 
@@ -409,6 +492,9 @@ fn lengths_that_are_enough() {
     assert_eq!(read(&largest, &mut table[..12_801]), Err(Refusal::TableTooShort));
     writes(&table, &largest);
     scores(&largest, 5_354_228_880, &[5_354_228_880; 512]);
+    let mut changes = vec![0; most.buses];
+    assert_eq!(outage(&table, 5_887, &mut changes), Ok(5_354_228_880));
+    assert_eq!(outage(&table, 5_888, &mut changes), Err(Refusal::NoSuchLine));
     let mut text = vec![0; most.text_bytes];
     assert!(whole_sheet(&table, &mut text).is_ok());
     refuses(&[&largest[..], &[0]].concat(), 5);

@@ -11,11 +11,12 @@ use std::fmt::Debug;
 const FILES: usize = 130_000;
 const TABLES: usize = 130_000;
 const ROUND_TRIPS: usize = 100_000;
+const OUTAGES: usize = 100_000;
 const FRACTIONS: usize = 500_000;
 
 /// How often a call was accepted (entry 0) and refused with each number.
 #[derive(Clone, Copy, Default)]
-struct Tally([usize; 18]);
+struct Tally([usize; 19]);
 
 impl Tally {
     fn count<A>(&mut self, answer: &Result<A, u8>) {
@@ -42,6 +43,9 @@ struct Tallies {
     row: Tally,
     shares: Tally,
     share: Tally,
+    outage: Tally,
+    /// The network does not have the line, and too few entries are lent besides.
+    no_line_and_short: usize,
     line: Tally,
     whole: Tally,
     /// Buses, each time that a table is scored: the need is above the degree, as it is without
@@ -73,6 +77,9 @@ impl Tallies {
         self.row.shows("row", &[11, 13]);
         self.shares.shows("shares", &[11, 12]);
         self.share.shows("share", &[11, 13]);
+        self.outage.shows("outage", &[11, 12, 18]);
+        println!("no line and too few entries: {}", self.no_line_and_short);
+        assert!(self.no_line_and_short >= 10_000, "{}", self.no_line_and_short);
         self.line.shows("sheet_line", &[11, 13, 14]);
         self.whole.shows("whole_sheet", &[11, 14]);
     }
@@ -392,6 +399,25 @@ fn call_all(table: &[u16], random: &mut Random, tallies: &mut Tallies) {
         }
     }
 
+    // lines: all of a small network, some of a large one, and numbers out of range, as above
+    let m = table.get(1 + 2 * n).map_or(0, |&end| end as usize / 2);
+    let small = random.below(m);
+    let mut lines: Vec<usize> = match m {
+        0..=3 => (0..m).collect(),
+        _ => vec![0, small, m - 1],
+    };
+    lines.extend([m, m + 1, small + (1 << 16), small + (1 << 32), usize::MAX]);
+    for line in lines {
+        let short = random.of(&[0, n / 2, n.saturating_sub(1)]);
+        for length in [short, n + random.below(4)] {
+            let library = |changes: &mut [i64]| share_sheet::outage(table, line, changes);
+            let plain = |changes: &mut [i64]| plain::outage(table, line, changes);
+            let (answer, _) = alike(&marks(length), -0xA5A5, library, plain);
+            tallies.outage.count(&answer);
+            tallies.no_line_and_short += usize::from(answer == Err(18) && length < n);
+        }
+    }
+
     let whole = |text: &mut [u8]| plain::whole_sheet(table, text);
     for length in byte_lengths(whole(&mut buffer), random) {
         let library = |text: &mut [u8]| share_sheet::whole_sheet(table, text);
@@ -627,6 +653,116 @@ fn round_trips() {
         assert_eq!(table_of(&lent, entries), (counts, built));
     }
     trips.show();
+}
+
+/// How many lines went out, and how many in each way that counts.
+#[derive(Debug, Default)]
+struct Outages {
+    /// The line has several circuits; it is the first line, and the last, of several.
+    parallel: usize,
+    first: usize,
+    last: usize,
+    /// The network without the line can be read, and its shares are compared.
+    compared: usize,
+    /// It cannot be, since the need of one end is above its degree then, or the needs of both.
+    one_unmet: usize,
+    both_unmet: usize,
+    /// An end is left without lines.
+    left_alone: usize,
+    /// The network without the line has a smaller denominator.
+    smaller_denominator: usize,
+    /// Some bus is neither an end nor a neighbour of one; a neighbour of an end, which is none
+    /// itself, has another share.
+    far: usize,
+    beside: usize,
+}
+
+impl Outages {
+    fn show(&self) {
+        println!("{self:?}");
+        let ways = [
+            self.parallel,
+            self.first,
+            self.last,
+            self.compared,
+            self.one_unmet,
+            self.both_unmet,
+            self.left_alone,
+            self.smaller_denominator,
+            self.far,
+            self.beside,
+        ];
+        assert!(ways.iter().all(|&times| times >= 1_000), "{self:?}");
+    }
+}
+
+/// Lines go out of networks. Their numbers are places among the different pairs of the file, which
+/// are in order. Changes add up to zero, and are zero far from the line. If the file without the
+/// line's records is accepted, its shares less those of the full network are the changes.
+#[test]
+fn outages() {
+    let mut random = Random::new(0x5EED_0007_A6E5);
+    let mut outages = Outages::default();
+    for _ in 0..OUTAGES {
+        let network = Network::random(&mut random);
+        let rows = network.rows();
+        let table = made::table(&network.needs, &rows);
+        let pairs = network.once().records;
+        if pairs.is_empty() {
+            continue;
+        }
+        let any = random.below(pairs.len());
+        let line = random.of(&[0, any, any, pairs.len() - 1]);
+        let (a, b) = pairs[line];
+
+        let library = |changes: &mut [i64]| share_sheet::outage(&table, line, changes);
+        let plain = |changes: &mut [i64]| plain::outage(&table, line, changes);
+        let (answer, changes) = alike(&marks(rows.len()), -0xA5A5, library, plain);
+        let over = answer.expect("the network has the line");
+        assert_eq!(changes.iter().sum::<i64>(), 0);
+        let is_end = |bus: u16| bus == a || bus == b;
+        let ends = [&rows[a as usize], &rows[b as usize]];
+        let is_beside = |bus: u16| ends.iter().any(|row| row.contains(&bus));
+        for (bus, &change) in (0..).zip(&changes) {
+            assert!(change == 0 || is_end(bus) || is_beside(bus), "bus {bus}");
+        }
+
+        let mut weakened = network;
+        let records = weakened.records.len();
+        weakened.records.retain(|&record| record != (a, b));
+        let file = weakened.file();
+        let mut left = vec![0; table.len()];
+        match share_sheet::read(&file, &mut left) {
+            Ok(_) => {
+                let (mut with, mut without) = (vec![0; rows.len()], vec![0; rows.len()]);
+                assert_eq!(share_sheet::shares(&table, &mut with), Ok(over));
+                let smaller = share_sheet::shares(&left, &mut without).expect("it was read");
+                for (bus, &change) in changes.iter().enumerate() {
+                    let scaled = without[bus] * (over / smaller);
+                    assert_eq!(change, scaled as i64 - with[bus] as i64, "bus {bus}");
+                }
+                outages.compared += 1;
+                outages.smaller_denominator += usize::from(smaller < over);
+            }
+            Err(refusal) => {
+                assert_eq!(refusal, Refusal::NeedAboveDegree);
+                match unmet(&weakened).len() {
+                    1 => outages.one_unmet += 1,
+                    _ => outages.both_unmet += 1,
+                }
+            }
+        }
+        let several = pairs.len() > 1;
+        let mut buses = 0..rows.len() as u16;
+        let moved = |bus: u16| !is_end(bus) && changes[bus as usize] != 0;
+        outages.parallel += usize::from(records - weakened.records.len() > 1);
+        outages.first += usize::from(several && line == 0);
+        outages.last += usize::from(several && line == pairs.len() - 1);
+        outages.left_alone += usize::from(ends.iter().any(|row| row.len() == 1));
+        outages.beside += usize::from(buses.clone().any(moved));
+        outages.far += usize::from(buses.any(|bus| !is_end(bus) && !is_beside(bus)));
+    }
+    outages.show();
 }
 
 /// 513 buses are one too many for a table, whatever else it has.

@@ -207,6 +207,18 @@ fn measure_share(table: &[u16]) -> [f64; 2] {
     all.map(|time| time / n as f64)
 }
 
+fn measure_outage(table: &[u16], line: usize) -> [f64; 2] {
+    let mut changes = [vec![0; limits().buses], vec![0; limits().buses]];
+    let [mine, other] = &mut changes;
+    let over = share_sheet::outage(table, line, mine).expect("the network has the line");
+    assert_eq!(plain::outage(table, line, other), Ok(over));
+    assert_eq!(mine, other);
+    measure(
+        || _ = black_box(share_sheet::outage(black_box(table), line, black_box(mine))),
+        || _ = black_box(plain::outage(black_box(table), line, black_box(other))),
+    )
+}
+
 fn measure_whole_sheet(table: &[u16]) -> [f64; 2] {
     let mut texts = [vec![0; limits().text_bytes], vec![0; limits().text_bytes]];
     let [mine, other] = &mut texts;
@@ -238,6 +250,8 @@ fn print_calls(network: &Network) {
         ("Write", measure_write(&table)),
         ("Shares", measure_shares(from_ref(&table))),
         ("Share, mean over all buses", measure_share(&table)),
+        ("Outage, the line in the middle", measure_outage(&table, network.lines.len() / 2)),
+        ("Outage, the last line", measure_outage(&table, network.lines.len() - 1)),
         ("whole sheet, one call", measure_whole_sheet(&table)),
         ("whole sheet, a call for each line", measure_sheet_lines(&table)),
     ];

@@ -1,4 +1,4 @@
-//! A second reading of the scope and of orders 1 to 5 in plain safe Rust, which shares nothing with
+//! A second reading of the scope and of orders 1 to 6 in plain safe Rust, which shares nothing with
 //! the library. Tests compare the library with it, and the benchmark measures against it. Refusals
 //! are their numbers.
 #![allow(dead_code)] // each program that has this module uses a part of it
@@ -153,6 +153,34 @@ impl<'a> Network<'a> {
         &self.links[self.starts[bus] as usize..self.starts[bus + 1] as usize]
     }
 
+    /// The different pairs of neighbours, the lower bus first, ascending. Each is found at both of
+    /// its buses, and counts once.
+    fn pairs(&self) -> Vec<(u16, u16)> {
+        let mut pairs = Vec::with_capacity(self.links.len());
+        for bus in 0..self.n as u16 {
+            let row = self.row(bus.into()).iter();
+            pairs.extend(row.map(|&other| (bus.min(other), bus.max(other))));
+        }
+        pairs.sort_unstable();
+        pairs.dedup();
+        pairs
+    }
+
+    /// The table of the network in which two buses are neighbours no longer.
+    fn without(&self, a: u16, b: u16) -> Vec<u16> {
+        let mut table = vec![self.n as u16];
+        table.extend(self.needs);
+        let mut links = Vec::with_capacity(self.links.len());
+        for bus in 0..self.n as u16 {
+            table.push(links.len() as u16);
+            let stays = |&other: &u16| (bus.min(other), bus.max(other)) != (a, b);
+            links.extend(self.row(bus.into()).iter().copied().filter(stays));
+        }
+        table.push(links.len() as u16);
+        table.extend(links);
+        table
+    }
+
     /// The need and the degree of a bus.
     fn need_and_degree(&self, bus: usize) -> (u64, u64) {
         (self.needs[bus].into(), self.row(bus).len() as u64)
@@ -217,14 +245,7 @@ fn divisor(mut a: u64, mut b: u64) -> u64 {
 /// Writes the network file of a table into `file`; gives its bytes.
 pub fn write(table: &[u16], file: &mut [u8]) -> Result<usize, u8> {
     let network = Network::of(table)?;
-    // each line is found at both of its ends, and counts once
-    let mut pairs = Vec::with_capacity(network.links.len());
-    for bus in 0..network.n as u16 {
-        let row = network.row(bus.into()).iter();
-        pairs.extend(row.map(|&other| (bus.min(other), bus.max(other))));
-    }
-    pairs.sort_unstable();
-    pairs.dedup();
+    let pairs = network.pairs();
 
     let mut content = (network.n as u16).to_le_bytes().to_vec();
     content.extend(network.needs.iter().map(|&need| need as u8));
@@ -267,6 +288,23 @@ pub fn share(table: &[u16], bus: usize) -> Result<(u64, u64), u8> {
     }
     let l = network.denominator();
     Ok((network.numerator(bus, l), l))
+}
+
+/// Stores what each bus has without a line less what it has with it; gives the common denominator
+/// of the full network, which both are over.
+pub fn outage(table: &[u16], line: usize, changes: &mut [i64]) -> Result<u64, u8> {
+    let network = Network::of(table)?;
+    let &(a, b) = network.pairs().get(line).ok_or(18)?;
+    let front = changes.get_mut(..network.n).ok_or(12)?;
+    // it is scored also if a need now exceeds a degree
+    let weakened = network.without(a, b);
+    let weakened = Network::sections(&weakened).expect("rows stand one behind another");
+    let l = network.denominator();
+    let (with, without) = (network.numerators(l), weakened.numerators(l));
+    for (bus, change) in front.iter_mut().enumerate() {
+        *change = without[bus] as i64 - with[bus] as i64;
+    }
+    Ok(l)
 }
 
 /// A fraction in lowest terms.
