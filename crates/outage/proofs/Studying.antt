@@ -15,13 +15,14 @@ use Rattle.table_spec.specs.Lines.{lowerEnd, upperEnd}
 use Rattle.share_spec.specs.TableNetwork.{maxDenominator, Over}
 use Rattle.share_spec.specs.TermsGiven.{termsFrom}
 use Rattle.share_terms.specs.Added.{Added}
+use Rattle.share_terms.specs.Unit.{Divided}
 use Rattle.two_way.specs.TwoWay.{networkOf}
 use Rattle.outage_spec.specs.Outage.{withoutPair, withoutLine, changeOver}
 use Rattle.outage_spec.specs.StudyOutcome.{Line}
 use Rattle.outage_spec.specs.WeakenedTable.{lower-inside, weak-buses, lower-row, upper-row}
 use Rattle.outage_spec.specs.EndTerms.{endsWith, endsWithout, change-by-ends, ends-with-le, ends-without-le}
 use Rattle.outage_spec.specs.StudyDue.{line-named}
-use Rattle.outage.specs.StudyWork.{Divided, Room}
+use Rattle.outage.specs.StudyWork.{Room}
 
 pub zeros-room : (n L : ℕ) → L ≤ maxDenominator → Room L (replicate n 0)
 zeros-room n L h v = omega (arith, at-zeros n v)

@@ -12,11 +12,12 @@ ghost use Rattle.table_spec.specs.Lines.{lowerEnd, upperEnd};
 ghost use Rattle.share_spec.specs.TableNetwork.{maxDenominator, Over};
 ghost use Rattle.share_spec.specs.TermsGiven.{termsFrom};
 ghost use Rattle.share_terms.specs.Added.{Added};
+ghost use Rattle.share_terms.specs.Unit.{Divided};
 ghost use Rattle.two_way.specs.TwoWay.{networkOf};
 ghost use Rattle.outage_spec.specs.Outage.{withoutLine, changeOver};
 ghost use Rattle.outage_spec.specs.StudyOutcome.{studyOutcome, changesAfter, AllStudied};
 ghost use Rattle.outage.specs.StudyAnswers.{outcomeOfStudy};
-ghost use Rattle.outage.specs.StudyWork.{Above, Divided, Room};
+ghost use Rattle.outage.specs.StudyWork.{Above, Room};
 use network::Network;
 pub use network::Refusal;
 use network::rows::entry;
@@ -24,9 +25,8 @@ use network::table::bus_count;
 use network::table::lines;
 use network::table::need;
 use network::table::neighbours;
+use share_terms::add_terms;
 pub use share_terms::denominator;
-use share_terms::give;
-use share_terms::term;
 use share_terms::unit;
 use signed::less;
 use table_check::holds;
@@ -100,17 +100,6 @@ fn leave_out(row: &[u16], bus: usize, left: &mut [u16]) -> usize
     many
 }
 
-// Adds the terms of a bus by its need and its row: to its own sum what is left of its L, and to the sum of each bus in its row what it gives.
-fn add_terms(over: u64, need: usize, row: &[u16], bus: usize, sums: &mut [u64])
-    requires { ⌜ (1 ≤ need) × (length (now row) ≤ maxDegree) × Divided (length (now row)) over ⌝ }
-    requires { ⌜ Room over (now sums) × (bus < length (now sums)) × ((v : ℕ) → v ∈ now row → v < length (now sums)) ⌝ }
-    ensures { λ _. ⌜ Added (termsFrom need (now (row .entry)) over bus) (now (sums .entry)) (now (sums .exit)) ⌝ }
-{
-    let term = term(need, row.len(), unit(over, row.len()));
-    sums[bus] += over - (row.len() as u64) * term;
-    give(row, term, sums);
-}
-
 // Adds the terms of an end of a line to the sums before its loss, and those without the line to the sums after it.
 fn add_end(
     table: &[u16],
@@ -129,10 +118,10 @@ fn add_end(
 {
     let row = neighbours(table, end);
     let need = need(table, end);
-    add_terms(over, need, row, end, before);
+    add_terms(over, need, row, unit(over, row.len()), end, before);
     let mut left = [0u16; Network::LINES_AT_BUS];
     let many = leave_out(row, other, &mut left);
-    add_terms(over, need, &left[..many], end, after);
+    add_terms(over, need, &left[..many], unit(over, many), end, after);
 }
 
 // Stores the sum of each of n buses after the loss less its sum before it.

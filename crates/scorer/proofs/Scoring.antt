@@ -1,51 +1,40 @@
 -- How the code scores all buses: each adds its terms to the numerators, and what all have given is the game's formula.
 use mathlib.Core.List.{List}
-use mathlib.Core.Path.{_≡_, refl, ap, subst, _∙_}
-use Prim.Native.Nat.{ℕ, _+_, _-_, _*_, _^_, _≤_, _<_}
-use native.Mathlib.Nat.{one-mul, mul-le-mul}
+use mathlib.Core.Path.{_≡_, sym, ap, ap₂, subst, _∙_}
+use Prim.Native.Nat.{ℕ, _+_, _*_, _^_, _≤_, _<_}
+use native.Mathlib.Nat.{mul-le-mul}
 use native.Mathlib.Omega.{arith}
-use lib.ListN.{length, set, replicate}
-use Rattle.lists.specs.Lists.{count, _∈_, at, put}
+use lib.ListN.{length, replicate}
+use Rattle.lists.specs.Lists.{_∈_, at, put}
 use Rattle.lists.specs.Below.{mapBelow, range}
 use Rattle.lists.specs.Loops.{sumBelow-next}
 use Rattle.lists.specs.SumsBelow.{sumBelow-le, sumBelow-const}
-use Rattle.game.specs.Game.{Game, neighbourTerm, neighbour, Whole, numerator as formula}
+use Rattle.game.specs.Game.{Game, numerator as formula}
 use Rattle.table_spec.specs.Limits.{maxBuses}
 use Rattle.table_spec.specs.Layout.{busCount, row, need}
 use Rattle.table_spec.specs.Holds.{Scorable}
-use Rattle.table_spec.specs.Rows.{valid-below, row-valid}
 use Rattle.share_spec.specs.TableNetwork.{gameOf, maxDenominator, Over}
 use Rattle.share_spec.specs.TableGame.{game-on, term-whole}
 use Rattle.share_spec.specs.TermsGiven.{termTo, termsFrom, term-by-row, terms-le, givenBy, all-given, none-given}
 use Rattle.share_terms.specs.Added.{Added}
 use Rattle.share_terms.specs.Adding.{added-same, added-both, cleared-long, cleared-zero, added-zeros}
-use Rattle.share_terms.specs.RowTerms.{row-room, terms-added}
+use Rattle.share_terms.specs.RowTerms.{row-inside}
 use Rattle.scorer.specs.ScorerWork.{Room}
 
 -- ---- what one bus gives
 
--- the row r of a bus and x, which it gives to each bus there, as code has them
-module _ {t : List ℕ} (w : Scorable t) {L : ℕ} (o : Over t L) {bus : ℕ} {r : List ℕ} (b : bus < busCount t) (er : r ≡ row t bus) {x : ℕ} (ex : x ≡ neighbour (gameOf t) L bus) where
-  whole : Whole (need t bus) (length r) L
-  whole = rw er (term-whole w o bus b)
-
-  by-row : x ≡ neighbourTerm (need t bus) (length r) L
-  by-row = rw er (ex ∙ one-mul _)
-
-  as-row : (v : ℕ) → termTo (gameOf t) L bus v ≡ termsFrom (need t bus) r L bus v
-  as-row v = rw er (term-by-row t L bus v)
-
+module _ {t : List ℕ} (w : Scorable t) {L : ℕ} (o : Over t L) {bus : ℕ} (b : bus < busCount t) where
   given-le : (v : ℕ) → termTo (gameOf t) L bus v ≤ L
-  given-le v = omega (arith, as-row v, terms-le (need t bus) r L bus v whole)
+  given-le v = omega (arith, term-by-row t L bus v, terms-le (need t bus) (row t bus) L bus v (term-whole w o bus b))
 
-  -- its terms are added to the numerators u
-  module _ (u : List ℕ) (room : Room (busCount t) L u) where
-    pub terms-room : (v : ℕ) → v ∈ r → (v < length (set u bus (at u bus + (L - length r * x)))) × (at (set u bus (at u bus + (L - length r * x))) v + x * count v r < 2 ^ 64)
-    terms-room =
-        row-room L bus (need t bus) r whole by-row u (room bus b .0) (λ v m. room v (valid-below (row-valid w bus b) v (rw er at m)))
+  -- its row r and its need k, as code has them
+  module _ {r : List ℕ} {k : ℕ} (er : r ≡ row t bus) (ek : k ≡ need t bus) where
+    -- the numerators x have room for its terms
+    pub terms-room : (x : List ℕ) → Room (busCount t) L x → ((bus < length x) × (at x bus + L < 2 ^ 64)) × ((v : ℕ) → v ∈ r → (v < length x) × (at x v + L < 2 ^ 64))
+    terms-room x room = (room bus b, λ v m. room v (row-inside w b er ek v m))
 
-    pub all-terms : {k : List ℕ} → Added (λ v. x * count v r) (set u bus (at u bus + (L - length r * x))) k → Added (termTo (gameOf t) L bus) u k
-    all-terms a = added-same (terms-added L bus (need t bus) r whole by-row u (room bus b .0) a) as-row
+    pub all-terms : {x y : List ℕ} → Added (termsFrom k r L bus) x y → Added (termTo (gameOf t) L bus) x y
+    all-terms a = added-same a (λ v. term-by-row t L bus v ∙ ap₂ (λ k r. termsFrom k r L bus v) (sym ek) (sym er))
 
 -- ---- bus by bus
 
@@ -56,7 +45,7 @@ bus-added g L m a b = added-both a b (λ v. sumBelow-next m (λ u. termTo g L u 
 module _ {t : List ℕ} (w : Scorable t) {L : ℕ} (o : Over t L) where
   -- the first m buses give at most L each
   given-by-le : (m v : ℕ) → m ≤ busCount t → givenBy (gameOf t) L m v ≤ m * L
-  given-by-le m v h = rw (← sumBelow-const L m) (sumBelow-le _ _ m (λ u b. given-le w o {bus = u} (omega arith) refl refl v))
+  given-by-le m v h = rw (← sumBelow-const L m) (sumBelow-le _ _ m (λ u b. given-le w o {bus = u} (omega arith) v))
 
   -- the first n entries of s were cleared, which left z, and then the first m buses added their terms, which left u
   module _ (s : List ℕ) {n : ℕ} {z : List ℕ} (en : n ≡ busCount t) (h : n ≤ length s) (cleared : z ≡ put s 0 (replicate n 0))

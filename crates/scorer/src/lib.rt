@@ -23,9 +23,9 @@ use network::rows::entry;
 use network::table::bus_count;
 use network::table::need;
 use network::table::neighbours;
+use share_terms::add_terms;
 use share_terms::clear;
 pub use share_terms::denominator;
-use share_terms::give;
 use share_terms::term;
 use share_terms::unit;
 use table_check::holds;
@@ -64,17 +64,15 @@ fn units(over: u64) -> [u64; DEGREES]
     units
 }
 
-// Adds the terms of a bus: to its own entry what is left of its L, and to the entry of each bus in its row what it gives.
-fn add_terms(table: &[u16], over: u64, units: &[u64; DEGREES], bus: usize, numerators: &mut [u64])
+// Adds the terms of a bus.
+fn add_bus(table: &[u16], over: u64, units: &[u64; DEGREES], bus: usize, numerators: &mut [u64])
     requires { ⌜ Scorable (now table) × (bus < busCount (now table)) × Over (now table) over ⌝ }
     requires { ⌜ Tabled degrees (unit over) (now units) × Room (busCount (now table)) over (now numerators) ⌝ }
     ensures { λ _. ⌜ Added (termTo (gameOf (now (table .entry))) over bus) (now (numerators .entry)) (now (numerators .exit)) ⌝ }
 {
     let row = neighbours(table, bus);
     let need = need(table, bus);
-    let term = term(need, row.len(), units[row.len()]);
-    numerators[bus] += over - (row.len() as u64) * term;
-    give(row, term, numerators);
+    add_terms(over, need, row, units[row.len()], bus, numerators);
 }
 
 // Stores the numerators of all buses, whichever way the table's lines run, over any L that makes their terms whole.
@@ -87,7 +85,7 @@ pub fn score_over(table: &[u16], over: u64, numerators: &mut [u64])
     clear(numerators, n);
     let mut bus = 0;
     while bus < n {
-        add_terms(table, over, &units, bus, numerators);
+        add_bus(table, over, &units, bus, numerators);
         bus += 1;
     }
 }

@@ -1,6 +1,6 @@
 -- The terms of a bus by its need and its row, as they are added to a list of sums: first what is left of its L, then what each bus of its row gets.
 use mathlib.Core.List.{List}
-use mathlib.Core.Path.{_≡_}
+use mathlib.Core.Path.{_≡_, ap}
 use Prim.Native.Nat.{ℕ, _+_, _-_, _*_, _^_, _≤_, _<_}
 use native.Mathlib.Omega.{arith}
 use lib.Dec.{eqb}
@@ -8,7 +8,13 @@ use lib.ListN.{length, set}
 use Rattle.lists.specs.Lists.{indicator, count, _∈_, at}
 use Rattle.game.specs.Game.{ownTerm, neighbourTerm, Whole}
 use Rattle.game.specs.Terms.{terms-whole}
+use Rattle.table_spec.specs.Limits.{maxDegree}
+use Rattle.table_spec.specs.Layout.{busCount, row, need}
+use Rattle.table_spec.specs.Holds.{Scorable}
+use Rattle.table_spec.specs.Rows.{valid-below, row-valid, degree-le}
+use Rattle.share_spec.specs.TableNetwork.{Over}
 use Rattle.share_spec.specs.TermsGiven.{termsFrom, terms-le}
+use Rattle.share_terms.specs.Unit.{unit, Divided}
 use Rattle.share_terms.specs.Added.{Added}
 use Rattle.share_terms.specs.Adding.{added-entry, added-both}
 
@@ -42,3 +48,16 @@ module _ (L bus k : ℕ) (r : List ℕ) (whole : Whole k (length r) L) {x : ℕ}
     -- and with that all is added that it gives
     pub terms-added : {w : List ℕ} → Added (λ v. x * count v r) (set u bus (at u bus + left)) w → Added (termsFrom k r L bus) u w
     terms-added a = added-both left-added a as-given
+
+-- what is asked of a bus of a table; its row r, its need k and its unit u are as code has them
+module _ {t : List ℕ} (w : Scorable t) {bus k : ℕ} {r : List ℕ} (b : bus < busCount t) (er : r ≡ row t bus) (ek : k ≡ need t bus) where
+  pub row-inside : (v : ℕ) → v ∈ r → v < busCount t
+  row-inside v m = valid-below (row-valid w bus b) v (rw er at m)
+
+  pub terms-asked : {L u : ℕ} → Over t L → u ≡ unit L (length r) → (1 ≤ k) × (length r ≤ maxDegree) × Divided (length r) L × (u ≡ unit L (length r))
+  terms-asked o eu = (
+    omega (arith, w .needed bus b),
+    omega (arith, ap length er, degree-le w bus b),
+    record { divided = rw er (o .divided bus b); bounded = o .bounded },
+    eu,
+  )

@@ -9,7 +9,8 @@ ghost use Rattle.table_spec.specs.Limits.{maxDegree};
 ghost use Rattle.table_spec.specs.Holds.{Scorable};
 ghost use Rattle.game.specs.Game.{neighbourTerm};
 ghost use Rattle.share_spec.specs.TableNetwork.{largestDegree, divisorsOf, maxDenominator};
-ghost use Rattle.share_terms.specs.Unit.{unit};
+ghost use Rattle.share_spec.specs.TermsGiven.{termsFrom};
+ghost use Rattle.share_terms.specs.Unit.{unit, Divided};
 ghost use Rattle.share_terms.specs.TermCases.{termCase};
 ghost use Rattle.share_terms.specs.Added.{Added};
 use fraction::lcm;
@@ -123,4 +124,16 @@ pub fn give(row: &[u16], term: u64, numerators: &mut [u64])
         numerators[bus] += term;
         k += 1;
     }
+}
+
+// Adds the terms of a bus by its need, its row and the unit of its degree: to its own entry what is left of its L, and to the entry of each bus in its row what it gives.
+pub fn add_terms(over: u64, need: usize, row: &[u16], one: u64, bus: usize, numerators: &mut [u64])
+    requires { ⌜ (1 ≤ need) × (length (now row) ≤ maxDegree) × Divided (length (now row)) over × (one ≡ unit over (length (now row))) ⌝ }
+    requires { ⌜ (bus < length (now numerators)) × (at (now numerators) bus + over < 2 ^ 64) ⌝ }
+    requires { ⌜ ((v : ℕ) → v ∈ now row → (v < length (now numerators)) × (at (now numerators) v + over < 2 ^ 64)) ⌝ }
+    ensures { λ _. ⌜ Added (termsFrom need (now (row .entry)) over bus) (now (numerators .entry)) (now (numerators .exit)) ⌝ }
+{
+    let term = term(need, row.len(), one);
+    numerators[bus] += over - (row.len() as u64) * term;
+    give(row, term, numerators);
 }

@@ -2,81 +2,97 @@
 use borrow.Author.Needs.{needs}
 use native.Mathlib.Omega.{arith}
 use mathlib.Core.List.{[], _∷_}
-use mathlib.Core.Path.{_≡_, refl, sym}
+use mathlib.Core.Path.{_≡_, sym}
 use Prim.Native.Nat.{_≤_}
 use lib.ListN.{length, take}
 use lib.Seq.{length-take-le}
 use Rattle.lists.specs.Lists.{without}
 use Rattle.lists.specs.Without.{length-without-le}
 use Rattle.lists.specs.Writes.{written-front}
-use Rattle.outage.proofs.EndRows.{row-short, row-members, row-asked, row-added, left-members, left-asked, left-added}
+use Rattle.table_spec.specs.Limits.{maxDegree}
+use Rattle.share_terms.specs.RowTerms.{terms-asked}
+use Rattle.outage.proofs.EndRows.{row-short, row-room, row-added, left-room, left-asked, left-added}
 use Rattle.outage.proofs.add_end.Statement.{statement}
 use Rattle.outage.proofs.add_end.Tie as tie
 
-add-terms-requires : tie.Need-add-terms-requires
-add-terms-requires c κs =
-    let k = c .before in
-    let r = k .before in
-    let s = r .before .before .before .before in
-    let w = s .pre .0 .0 in
-    let b = s .pre .0 .1 in (
-      row-asked w b (r .neighbours .ensures) (k .need .ensures) (s .pre .0 .2),
-      (s .pre .1 .1 .0 .0, omega (arith, b, s .pre .1 .1 .0 .1), row-members w b (r .neighbours .ensures) (k .need .ensures) (s .pre .1 .1 .0 .1)),
-    )
-
--- the row of the end, its need, and the row without the other end
-module _ (c : tie.After-leave-out) where
-  abbrev needed : tie.After-need
-  needed = c .before .before .before .before .before .before
-
+-- the row of the end, and its need
+module _ (c : tie.After-need) where
   abbrev listed : tie.After-neighbours
-  listed = needed .before
+  listed = c .before
 
   abbrev start : tie.Start
   start = listed .before .before .before .before
 
-  left-row : take (c .leave-out .result) (c .leave-out .last .1 .1 .0) ≡ without (start .args .other ∷ []) (listed .neighbours .result .now)
-  left-row = written-front _ _ (c .leave-out .ensures)
+  short : length (listed .neighbours .result .now) ≤ maxDegree
+  short = row-short (start .pre .0 .0) (start .pre .0 .1) (listed .neighbours .ensures) (c .need .ensures)
 
-  many-le : c .leave-out .result ≤ length (c .leave-out .last .1 .1 .0)
-  many-le =
-      let s = start .pre .0 in
-      omega (arith, c .leave-out .ensures .0, length-without-le (start .args .other ∷ []) (listed .neighbours .result .now), row-short (s .0) (s .1) (listed .neighbours .ensures) refl, c .leave-out .kept .1 .1 .0)
+unit-requires : tie.Need-unit-requires
+unit-requires c κs = short c
+
+add-terms-requires : tie.Need-add-terms-requires
+add-terms-requires c κs =
+    let n = c .before .before in
+    let s = start n in
+    let w = s .pre .0 .0 in
+    let b = s .pre .0 .1 in
+    let p = s .pre .1 .1 .0 in
+    let er = listed n .neighbours .ensures in
+    let ek = n .need .ensures in
+    (terms-asked (w .shape) b er ek (s .pre .0 .2) (c .before .unit .ensures), row-room w b er ek (s .args .over) (s .args .before .now) (p .0) (p .1))
 
 leave-out-requires : tie.Need-leave-out-requires
-leave-out-requires c κs =
-    let r = c .before .before .before .before .before .before in
-    let s = r .before .before .before .before in
-    row-short (s .pre .0 .0) (s .pre .0 .1) (r .neighbours .ensures) refl
+leave-out-requires c κs = short (c .before .before .before .before .before .before)
+
+-- the row without the other end
+module _ (c : tie.After-leave-out) where
+  abbrev needed : tie.After-need
+  needed = c .before .before .before .before .before .before .before
+
+  left-row : take (c .leave-out .result) (c .leave-out .last .1 .1 .0) ≡ without (start needed .args .other ∷ []) (listed needed .neighbours .result .now)
+  left-row = written-front _ _ (c .leave-out .ensures)
+
+  many-le : c .leave-out .result ≤ maxDegree
+  many-le =
+      omega (arith, c .leave-out .ensures .0, length-without-le (start needed .args .other ∷ []) (listed needed .neighbours .result .now), short needed)
+
+  left-long : c .leave-out .result ≡ length (take (c .leave-out .result) (c .leave-out .last .1 .1 .0))
+  left-long = sym (length-take-le _ _ (omega (arith, many-le, c .leave-out .kept .1 .1 .0)))
 
 array-share-prefix-left : tie.Need-array-share-prefix-left
-array-share-prefix-left c = many-le (c .before)
+array-share-prefix-left c = omega (arith, many-le (c .before), c .before .leave-out .kept .1 .1 .0)
 
 slice-aggregate-add-terms : tie.Need-slice-aggregate-add-terms
-slice-aggregate-add-terms c = sym (length-take-le _ _ (many-le (c .before .before)))
+slice-aggregate-add-terms c = left-long (c .before .before)
+
+unit-requires-2 : tie.Need-unit-requires-2
+unit-requires-2 c κs = many-le (c .before .before)
 
 add-terms-requires-2 : tie.Need-add-terms-requires-2
 add-terms-requires-2 c κs =
-    let m = c .before .before .before in
-    let s = start m in
+    let m = c .before .before .before .before in
+    let n = needed m in
+    let s = start n in
     let w = s .pre .0 .0 in
     let b = s .pre .0 .1 in
     let p = s .pre .1 .1 .1 in
-    let er = listed m .neighbours .ensures in
-    let ek = needed m .need .ensures in (
-      left-asked w b er ek (s .args .other) (left-row m) (s .pre .1 .0),
-      (p .0, omega (arith, b, p .1), left-members w b er ek (s .args .other) (left-row m) (p .1)),
+    let er = listed n .neighbours .ensures in
+    let ek = n .need .ensures in (
+      left-asked w b er ek (s .args .other) (left-row m) (s .pre .1 .0) (left-long m) (c .before .unit2 .ensures),
+      left-room w b er ek (s .args .other) (left-row m) (s .args .over) (s .args .after .now) (p .0) (p .1),
     )
 
 returns : tie.Need-returns
 returns c =
-    let m = c .before .before .before .before .before .before in
-    let s = start m in
+    let m = c .before .before .before .before .before .before .before in
+    let n = needed m in
+    let s = start n in
     let w = s .pre .0 .0 in
     let b = s .pre .0 .1 in
-    let er = listed m .neighbours .ensures in
-    let ek = needed m .need .ensures in
-    (row-added w b er ek (s .args .over) (m .before .before .before .before .add-terms .ensures), left-added w b er ek (s .args .other) (left-row m) (s .args .over) (c .before .before .add-terms2 .ensures))
+    let er = listed n .neighbours .ensures in
+    let ek = n .need .ensures in (
+      row-added w b er ek (s .args .over) (m .before .before .before .before .add-terms .ensures),
+      left-added w b er ek (s .args .other) (left-row m) (s .args .over) (c .before .before .add-terms2 .ensures),
+    )
 
 pub add-end-spec : {M : Type 1} → statement M
 add-end-spec =
@@ -84,11 +100,13 @@ add-end-spec =
     (tie.spec
     (λ c κs. search needs)
     (λ c κs. search needs)
+    unit-requires
     add-terms-requires
     (λ c. search needs)
     leave-out-requires
     array-share-prefix-left
     slice-aggregate-add-terms
+    unit-requires-2
     add-terms-requires-2
     (λ c. search needs)
     (λ c. search needs)

@@ -42,8 +42,8 @@ loop-holds c = (search needs, added-none (λ v. refl) _)
 long : (c : tie.At-loop Inv-loop μ-loop) → sized c .bus-count .result ≤ length (start c .args .numerators .now)
 long c = omega (arith, sized c .bus-count .ensures .0, start c .pre .1)
 
-add-terms-requires : tie.Need-add-terms-requires Inv-loop μ-loop
-add-terms-requires c κs =
+add-bus-requires : tie.Need-add-bus-requires Inv-loop μ-loop
+add-bus-requires c κs =
     let i = c .before .before in
     let v = i .before in
     let s = start v in (
@@ -56,7 +56,7 @@ loop-again c =
     let a = c .before .before in
     let v = a .before .before .before .before in
     let s = start v in
-    (search needs, bus-added (gameOf (s .args .table .now)) (s .args .over) (v .loop .bus) (v .loop .inv .1) (a .add-terms .ensures))
+    (search needs, bus-added (gameOf (s .args .table .now)) (s .args .over) (v .loop .bus) (v .loop .inv .1) (a .add-bus .ensures))
 
 same-length : tie.Need-same-length Inv-loop μ-loop
 same-length c =
@@ -79,7 +79,7 @@ score-over-spec =
     (λ c κs. search needs)
     clear-requires
     loop-holds
-    add-terms-requires
+    add-bus-requires
     (λ c. search needs)
     (λ c. search needs)
     loop-again
