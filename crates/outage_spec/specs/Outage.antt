@@ -17,7 +17,8 @@ use Rattle.two_way.specs.TwoWay.{networkOf}
 abbrev pub leaving : ℕ → ℕ → ℕ → List ℕ
 leaving a b i = cond (eqb i a) (b ∷ []) (cond (eqb i b) (a ∷ []) [])
 
--- the table without that line: the same buses and needs, and the two ends out of each other's rows
+-- the table without that line: the same buses and needs, and the two ends out of each other's rows. A row lists a neighbour once, so that parallel
+-- circuits go out together
 unfoldable pub withoutPair : List ℕ → ℕ → ℕ → List ℕ
 withoutPair t a b = tableOf (busCount t) (needs t) (λ i. without (leaving a b i) (row t i))
 

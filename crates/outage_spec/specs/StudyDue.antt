@@ -29,7 +29,7 @@ use Rattle.two_way.specs.TwoWay.{networkOf}
 use Rattle.two_way.specs.TwoWaySound.{total-weight, watching}
 use Rattle.outage_spec.specs.Outage.{withoutLine, changeOver, change}
 use Rattle.outage_spec.specs.StudyOutcome.{studyCauses, studyOutcome, storedChanges, changesAfter, Line, AllStudied}
-use Rattle.outage_spec.specs.WeakenedTable.{weak-buses, weak-scored, weak-over}
+use Rattle.outage_spec.specs.WeakenedTable.{weak-buses, weak-scored, line-lost, weak-over}
 use Rattle.outage_spec.specs.EndTerms.{change-le}
 use Rattle.outage_spec.specs.ChangeClaims.{changes-none, change-fair, change-far}
 
@@ -113,7 +113,7 @@ all-studied t k x {after = after} e f h b l =
       given = e ∙ sym (due .answered);
       over = common-denominator (networkOf t);
       line = line;
-      weakened = weak;
+      weakened = line-lost w line;
       every = every-order-once (busCount t);
       fair = λ v m. ap (λ z. pos (factorial (busCount t)) *ℤ z) (entry v m) ∙ change-fair full left n L whole still v m;
       none = totalBelow-same (signedAt after) (change t k) (busCount t) entry

@@ -1,10 +1,10 @@
 -- What the outage study answers and stores, for every slice and line number, and what its changes come to.
 -- Definitions only.
-use mathlib.Core.Bool.{false, true, not}
+use mathlib.Core.Bool.{_&&_, _||_, false, true, not}
 use mathlib.Core.List.{List, [], _∷_, _++_}
 use mathlib.Core.Path.{_≡_}
 use Prim.Native.Nat.{ℕ, _≤_, _<_}
-use lib.Dec.{ltb}
+use lib.Dec.{eqb, ltb}
 use lib.IntN.{ℤ, pos, _*ℤ_}
 use lib.ListN.{length, drop}
 use Rattle.lists.specs.Lists.{sumBy, has}
@@ -14,7 +14,7 @@ use Rattle.refusals.specs.declared.Refusal.the-variants.{NumeratorsTooShort, No
 use Rattle.refusals.specs.Outcomes.{Outcome, gives, Cause, _⇒_, outcome, valuesOr}
 use Rattle.game.specs.Orders.{orders, factorial, EveryOrderOnce}
 use Rattle.game.specs.Game.{gain}
-use Rattle.table_spec.specs.Layout.{busCount, row, starts, neighbourNumbers, startsAt, lines}
+use Rattle.table_spec.specs.Layout.{busCount, row, need, starts, neighbourNumbers, startsAt, lines}
 use Rattle.table_spec.specs.Holds.{holds, Scorable, Mirrored}
 use Rattle.table_spec.specs.Lines.{lowerEnd, upperEnd}
 use Rattle.table_spec.specs.TableOutcomes.{onTable}
@@ -64,6 +64,13 @@ pub record CanBeScored (t : List ℕ) : Type 0 where
   pub shape : Scorable t
   pub mirrored : Mirrored (busCount t) (starts (startsAt t) t) (neighbourNumbers (startsAt t) t)
 
+-- s is t without the line from a to b: the same buses and needs, and the same neighbours, but that the two ends are none of one another
+pub record LineLost (t : List ℕ) (a b : ℕ) (s : List ℕ) : Type 0 where
+  pub scored : CanBeScored s
+  pub buses : busCount s ≡ busCount t
+  pub needs : (i : ℕ) → need s i ≡ need t i
+  pub neighbours : (i j : ℕ) → i < busCount t → has j (row s i) ≡ (has j (row t i) && not ((eqb i a && eqb j b) || (eqb i b && eqb j a)))
+
 -- the answer is the L of the full network, no refusal; line k is a line, and the network without it can be scored; each bus's entry, times n!, is L
 -- times the sum of its gains over all orders without the line less that sum with it; entries add up to zero, and are zero far from the line
 pub record FairStudy (t : List ℕ) (k : ℕ) (answer : Outcome ℕ) (entries : List ℤ) : Type 0 where
@@ -71,7 +78,7 @@ pub record FairStudy (t : List ℕ) (k : ℕ) (answer : Outcome ℕ) (entries : 
   pub given : answer ≡ gives L
   pub over : CommonDenominator (networkOf t) L
   pub line : Line t (lowerEnd t k) (upperEnd t k)
-  pub weakened : CanBeScored (withoutLine t k)
+  pub weakened : LineLost t (lowerEnd t k) (upperEnd t k) (withoutLine t k)
   pub every : EveryOrderOnce (busCount t) (orders (range (busCount t)))
   pub fair : (v : ℕ) → v < busCount t → pos (factorial (busCount t)) *ℤ signedAt entries v ≡ pos L *ℤ difference (gains (networkOf (withoutLine t k)) v) (gains (networkOf t) v)
   pub none : totalBelow (busCount t) (signedAt entries) ≡ pos 0

@@ -1,5 +1,5 @@
 -- The network without a line can be scored: its rows, its degrees, and that the L of the full network makes its terms whole.
-use mathlib.Core.Bool.{Bool, true, false, cond, not, _&&_}
+use mathlib.Core.Bool.{Bool, true, false, cond, not, _&&_, _||_, and-false, and-true}
 use mathlib.Core.List.{List, [], _∷_, append-nil}
 use mathlib.Core.Path.{_≡_, refl, sym, ap, ap₂, _∙_}
 use Prim.Native.Nat.{ℕ, _≤_, _<_}
@@ -8,7 +8,7 @@ use borrow.Author.Tests.{eqb-true, ne-eqb}
 use lib.Dec.{eqb}
 use lib.ListN.{length}
 use Rattle.lists.specs.Lists.{has, without, at}
-use Rattle.lists.specs.Tests.{split, eqb-self}
+use Rattle.lists.specs.Tests.{split, eqb-self, never-both}
 use Rattle.lists.specs.Without.{without-none, has-one, has-without, length-without-le}
 use Rattle.fraction.specs.Divisors.{lcmAll}
 use Rattle.table_spec.specs.Layout.{busCount, needs, row, need, degree}
@@ -19,7 +19,7 @@ use Rattle.table_spec.specs.Laid.{made-busCount, made-needs, made-row, made-sco
 use Rattle.share_spec.specs.TableNetwork.{divisorsOf, Over}
 use Rattle.share_spec.specs.TableGame.{fewer-divided, own-over}
 use Rattle.outage_spec.specs.Outage.{leaving, withoutPair}
-use Rattle.outage_spec.specs.StudyOutcome.{Line, CanBeScored}
+use Rattle.outage_spec.specs.StudyOutcome.{Line, CanBeScored, LineLost}
 
 -- ---- who leaves which row
 
@@ -34,6 +34,15 @@ same-leaving false true false false h k = refl
 same-leaving false false true s h k = refl
 same-leaving false false false true h k = refl
 same-leaving false false false false h k = refl
+
+-- the other leaves the row of either end, and nobody else leaves a row
+kept : (p q r s y : Bool) → (p ≡ true → q ≡ false) → (not (cond p s (cond q r false)) && y) ≡ (y && not ((p && s) || (q && r)))
+kept true true r s y h = absurd (never-both refl (h refl))
+kept true false r true y h = sym (and-false y)
+kept true false r false y h = sym (and-true y)
+kept false true true s y h = sym (and-false y)
+kept false true false s y h = sym (and-true y)
+kept false false r s y h = sym (and-true y)
 
 module _ {a b : ℕ} (apart : a < b) where
   not-both : (i : ℕ) → eqb i a ≡ true → eqb i b ≡ false
@@ -121,6 +130,18 @@ module _ {t : List ℕ} (w : Holds t) {a b : ℕ} (line : Line t a b) where
             (λ i l. omega (arith, length-without-le (leaving a b i) (row t i), degree-le (w .shape) i l)));
         mirrored = rw append-nil at (made-mirrored n (needs t) rows [] long mirrored-rows);
       }
+
+  pub line-lost : LineLost t a b (withoutPair t a b)
+  line-lost = record {
+    scored = weak-scored;
+    buses = weak-buses;
+    needs = weak-need;
+    neighbours = λ i j l.
+        ap (has j) (weak-row i l)
+        ∙ has-without j (leaving a b i) (row t i)
+        ∙ ap (λ x. not x && has j (row t i)) (has-leaving (line .ascends) i j)
+        ∙ kept (eqb i a) (eqb i b) (eqb j a) (eqb j b) (has j (row t i)) (not-both (line .ascends) i);
+  }
 
   -- over the L of the full network
   pub weak-over : {L : ℕ} → L ≡ lcmAll (divisorsOf t) → Over (withoutPair t a b) L

@@ -23,7 +23,7 @@ pub enum Refusal {
     TableTooShort,
     // The slice holds no network.
     NoNetwork,
-    // Too few entries are lent for the numerators.
+    // Too few entries are lent for the numerators, or for the changes.
     NumeratorsTooShort,
     // The network does not have the bus, or the sheet does not have the line.
     NoSuchBus,

@@ -2,7 +2,7 @@
 -- that is the closed formula.
 use mathlib.Core.Bool.{cond}
 use mathlib.Core.List.{List}
-use mathlib.Core.Path.{_≡_, sym, ap, _∙_}
+use mathlib.Core.Path.{_≡_, sym, ap, ap₂, _∙_}
 use Prim.Native.Nat.{ℕ, _+_, _*_, _≤_, _<_}
 use native.Mathlib.Nat.{one-mul, mul-zero, mul-le-mul-left}
 use native.Mathlib.Omega.{arith}
@@ -33,7 +33,7 @@ termsFrom k r L u v = ownTerm k (length r) L * indicator (eqb v u) + neighbourTe
 
 pub term-by-row : (t : List ℕ) (L u v : ℕ) → termTo (gameOf t) L u v ≡ termsFrom (need t u) (row t u) L u v
 unfolding termTo termsFrom
-term-by-row t L u v = rw (one-mul, one-mul)
+term-by-row t L u v = ap₂ (λ x y. x * indicator (eqb v u) + y * count v (row t u)) (one-mul _) (one-mul _)
 
 -- no bus gets more than L from another
 pub terms-le : (k : ℕ) (r : List ℕ) (L u v : ℕ) → Whole k (length r) L → termsFrom k r L u v ≤ L
