@@ -1,15 +1,14 @@
 // The outage study: what the loss of a line does to the numerator of every bus.
 ghost use mathlib.Core.List.{[], _∷_, _++_};
 ghost use mathlib.Core.Path.{_≡_};
-ghost use Prim.Native.Nat.{ℕ, _+_, _^_, _≤_, _<_};
+ghost use Prim.Native.Nat.{ℕ, _^_, _≤_, _<_};
 ghost use lib.ListN.{length, drop};
-ghost use Rattle.lists.specs.Lists.{_∈_, without, at, Ascending, WrittenAt};
+ghost use Rattle.lists.specs.Lists.{without, at, Ascending, WrittenAt};
 ghost use Rattle.signed.specs.Signed.{difference, signedBelow};
-ghost use Rattle.table_spec.specs.Limits.{maxDegree};
 ghost use Rattle.table_spec.specs.Layout.{busCount, row, need, lines};
 ghost use Rattle.table_spec.specs.Holds.{Holds};
 ghost use Rattle.table_spec.specs.Lines.{lowerEnd, upperEnd};
-ghost use Rattle.share_spec.specs.TableNetwork.{maxDenominator, Over};
+ghost use Rattle.share_spec.specs.TableNetwork.{Over};
 ghost use Rattle.share_spec.specs.TermsGiven.{termsFrom};
 ghost use Rattle.share_terms.specs.Added.{Added};
 ghost use Rattle.share_terms.specs.Unit.{Divided};
@@ -38,9 +37,9 @@ pub enum AllChanges {
 }
 
 // The two ends of a line.
-pub struct Ends {
-    pub lower: usize,
-    pub upper: usize,
+struct Ends {
+    lower: usize,
+    upper: usize,
 }
 
 // Where the buses above this one begin in a row. A row ascends, so they are searched by halves.
@@ -100,7 +99,7 @@ fn leave_out(row: &[u16], bus: usize, left: &mut [u16]) -> usize
     many
 }
 
-// Adds the terms of an end of a line to the sums before its loss, and those without the line to the sums after it.
+// Adds the terms of one end of a line: those with the line to the sums before its loss, those without it to the sums after it.
 fn add_end(
     table: &[u16],
     over: u64,
