@@ -65,7 +65,7 @@ slice-aggregate-add-terms : tie.Need-slice-aggregate-add-terms
 slice-aggregate-add-terms c = left-long (c .before .before)
 
 unit-requires-2 : tie.Need-unit-requires-2
-unit-requires-2 c κs = many-le (c .before .before)
+unit-requires-2 c κs = let m = c .before .before in omega (arith, many-le m, short (needed m))
 
 add-terms-requires-2 : tie.Need-add-terms-requires-2
 add-terms-requires-2 c κs =
