@@ -22,8 +22,8 @@ module _ {t : List ℕ} (w : Holds t) {end k : ℕ} {r : List ℕ} (b : end < bu
   row-short = omega (arith, ap length er, degree-le (w .shape) end b)
 
   -- sums x that are enough for all buses have room for its terms
-  pub row-room : (L : ℕ) (x : List ℕ) → Room L x → busCount t ≤ length x → ((end < length x) × (at x end + L < 2 ^ 64)) × ((v : ℕ) → v ∈ r → (v < length x) × (at x v + L < 2 ^ 64))
-  row-room L x room h = ((omega arith, room end), λ v m. (omega (arith, row-inside (w .shape) b er ek v m), room v))
+  pub end-room : (L : ℕ) (x : List ℕ) → Room L x → busCount t ≤ length x → ((end < length x) × (at x end + L < 2 ^ 64)) × ((v : ℕ) → v ∈ r → (v < length x) × (at x v + L < 2 ^ 64))
+  end-room L x room h = ((omega arith, room end), λ v m. (omega (arith, row-inside (w .shape) b er ek v m), room v))
 
   pub row-added : (L : ℕ) {u v : List ℕ} → Added (termsFrom k r L end) u v → Added (termsFrom (need t end) (row t end) L end) u v
   row-added L {u} {v} a = subst (λ q. Added (termsFrom q (row t end) L end) u v) ek (subst (λ q. Added (termsFrom k q L end) u v) er a)
@@ -34,7 +34,7 @@ module _ {t : List ℕ} (w : Holds t) {end k : ℕ} {r : List ℕ} (b : end < bu
     left-is = es ∙ ap (without (other ∷ [])) er
 
     pub left-room : (L : ℕ) (x : List ℕ) → Room L x → busCount t ≤ length x → ((end < length x) × (at x end + L < 2 ^ 64)) × ((v : ℕ) → v ∈ s → (v < length x) × (at x v + L < 2 ^ 64))
-    left-room L x room h = let all = row-room L x room h in (all .0, λ v m. all .1 v (of-without (other ∷ []) r v (rw es at m)))
+    left-room L x room h = let all = end-room L x room h in (all .0, λ v m. all .1 v (of-without (other ∷ []) r v (rw es at m)))
 
     -- it has so many buses, and its unit is u
     pub left-asked : {L u n : ℕ} → Divided (length (without (other ∷ []) (row t end))) L → n ≡ length s → u ≡ unit L n → (1 ≤ k) × (length s ≤ maxDegree) × Divided (length s) L × (u ≡ unit L (length s))

@@ -35,8 +35,8 @@ module _ (bus : ℕ) (change : ℤ) (t : List ℕ) (i : ℕ) (room : i + length 
     kept : length u ≡ length t
     kept = stored-length t i first (w .1) (w .0) (omega (arith, w .0, long))
 
-    pub change-fits : {r : ℤ} → r ≡ change → j + length (signedDecimal r) ≤ length u
-    change-fits q = omega (arith, ap (λ z. length (signedDecimal z)) q, w .0, long, kept)
+    pub digits-fit : {r : ℤ} → r ≡ change → j + length (signedDecimal r) ≤ length u
+    digits-fit q = omega (arith, ap (λ z. length (signedDecimal z)) q, w .0, long, kept)
 
     -- and the change
     module _ {r : ℤ} {e : ℕ} {v : List ℕ} (q : r ≡ change) (more : WrittenAt (signedDecimal r) j u e v) where

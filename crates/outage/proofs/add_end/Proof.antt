@@ -11,7 +11,7 @@ use Rattle.lists.specs.Without.{length-without-le}
 use Rattle.lists.specs.Writes.{written-front}
 use Rattle.table_spec.specs.Limits.{maxDegree}
 use Rattle.share_terms.specs.RowTerms.{terms-asked}
-use Rattle.outage.proofs.EndRows.{row-short, row-room, row-added, left-room, left-asked, left-added}
+use Rattle.outage.proofs.EndRows.{row-short, end-room, row-added, left-room, left-asked, left-added}
 use Rattle.outage.proofs.add_end.Statement.{statement}
 use Rattle.outage.proofs.add_end.Tie as tie
 
@@ -38,7 +38,7 @@ add-terms-requires c κs =
     let p = s .pre .1 .1 .0 in
     let er = listed n .neighbours .ensures in
     let ek = n .need .ensures in
-    (terms-asked (w .shape) b er ek (s .pre .0 .2) (c .before .unit .ensures), row-room w b er ek (s .args .over) (s .args .before .now) (p .0) (p .1))
+    (terms-asked (w .shape) b er ek (s .pre .0 .2) (c .before .unit .ensures), end-room w b er ek (s .args .over) (s .args .before .now) (p .0) (p .1))
 
 leave-out-requires : tie.Need-leave-out-requires
 leave-out-requires c κs = short (c .before .before .before .before .before .before)

@@ -10,7 +10,7 @@ use mir.ValLaws.{toZ-ofZ}
 use Rattle.lists.specs.Lists.{WrittenAt}
 use Rattle.lists.specs.Writes.{stored-length}
 use Rattle.outage_report.specs.OutageReport.{lineOf}
-use Rattle.outage_report.specs.ChangeWriting.{bus-fits, change-fits, end-inside, line-written}
+use Rattle.outage_report.specs.ChangeWriting.{bus-fits, digits-fit, end-inside, line-written}
 use Rattle.outage_report.proofs.write_change.Statement.{statement}
 use Rattle.outage_report.proofs.write_change.Tie as tie
 
@@ -25,7 +25,7 @@ signed-decimal-requires : tie.Need-signed-decimal-requires
 signed-decimal-requires c κs =
     let f = c .before .before .before in
     let s = f .before .before .before .before .before in
-    change-fits (s .args .bus) (s .args .change) (s .args .out .now) (s .args .at) (s .pre) (f .fill-template .ensures) (read s)
+    digits-fit (s .args .bus) (s .args .change) (s .args .out .now) (s .args .at) (s .pre) (f .fill-template .ensures) (read s)
 
 -- the change is written behind the bus
 module _ (c : tie.After-signed-decimal) where
