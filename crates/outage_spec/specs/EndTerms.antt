@@ -20,21 +20,21 @@ use Rattle.outage_spec.specs.Outage.{withoutPair, changeOver}
 use Rattle.outage_spec.specs.StudyOutcome.{Line}
 use Rattle.outage_spec.specs.WeakenedTable.{lower-inside, weak-buses, weak-need, lower-row, upper-row, other-row, weak-scored}
 
+-- what the ends a and b of a line give to bus v with the line, and without it
+abbrev pub endsWith : List ℕ → ℕ → ℕ → ℕ → ℕ → ℕ
+endsWith t a b L v = termsFrom (need t a) (row t a) L a v + termsFrom (need t b) (row t b) L b v
+
+abbrev pub endsWithout : List ℕ → ℕ → ℕ → ℕ → ℕ → ℕ
+endsWithout t a b L v = termsFrom (need t a) (without (b ∷ []) (row t a)) L a v + termsFrom (need t b) (without (a ∷ []) (row t b)) L b v
+
 module _ {t : List ℕ} (w : Holds t) {a b : ℕ} (line : Line t a b) (L : ℕ) where
   abbrev s : List ℕ
   s = withoutPair t a b
 
-  -- what the ends give to bus v with the line, and without it
-  abbrev pub endsWith : ℕ → ℕ
-  endsWith v = termsFrom (need t a) (row t a) L a v + termsFrom (need t b) (row t b) L b v
-
-  abbrev pub endsWithout : ℕ → ℕ
-  endsWithout v = termsFrom (need t a) (without (b ∷ []) (row t a)) L a v + termsFrom (need t b) (without (a ∷ []) (row t b)) L b v
-
-  with-terms : (v : ℕ) → termTo (gameOf t) L a v + termTo (gameOf t) L b v ≡ endsWith v
+  with-terms : (v : ℕ) → termTo (gameOf t) L a v + termTo (gameOf t) L b v ≡ endsWith t a b L v
   with-terms v = ap₂ _+_ (term-by-row t L a v) (term-by-row t L b v)
 
-  without-terms : (v : ℕ) → termTo (gameOf s) L a v + termTo (gameOf s) L b v ≡ endsWithout v
+  without-terms : (v : ℕ) → termTo (gameOf s) L a v + termTo (gameOf s) L b v ≡ endsWithout t a b L v
   without-terms v =
       ap₂ _+_
       (term-by-row s L a v ∙ ap₂ (λ k r. termsFrom k r L a v) (weak-need w line a) (lower-row w line))
@@ -47,7 +47,7 @@ module _ {t : List ℕ} (w : Holds t) {a b : ℕ} (line : Line t a b) (L : ℕ) 
       ∙ ap₂ (λ k r. termsFrom k r L u v) (weak-need w line u) (other-row w line u l p q)
       ∙ sym (term-by-row t L u v)
 
-  numerators-moved : (v : ℕ) → v < busCount t → numeratorOver (networkOf s) L v + endsWith v ≡ endsWithout v + numeratorOver (networkOf t) L v
+  numerators-moved : (v : ℕ) → v < busCount t → numeratorOver (networkOf s) L v + endsWith t a b L v ≡ endsWithout t a b L v + numeratorOver (networkOf t) L v
   numerators-moved v l =
       let c = weak-scored w line in
       let n = weak-buses w line in
@@ -63,13 +63,13 @@ module _ {t : List ℕ} (w : Holds t) {a b : ℕ} (line : Line t a b) (L : ℕ) 
       )
 
   -- THE CHANGE IS THE ENDS'
-  pub change-by-ends : (v : ℕ) → v < busCount t → changeOver (networkOf t) (networkOf s) L v ≡ difference (endsWithout v) (endsWith v)
+  pub change-by-ends : (v : ℕ) → v < busCount t → changeOver (networkOf t) (networkOf s) L v ≡ difference (endsWithout t a b L v) (endsWith t a b L v)
   unfolding changeOver
   change-by-ends v l = difference-same _ _ _ _ (numerators-moved v l)
 
   -- L makes the terms whole with the line and without it
   module _ (o : Over t L) (p : Over s L) where
-    pub ends-with-le : (v : ℕ) → endsWith v ≤ 2 * L
+    pub ends-with-le : (v : ℕ) → endsWith t a b L v ≤ 2 * L
     ends-with-le v =
         omega (
           arith,
@@ -77,7 +77,7 @@ module _ {t : List ℕ} (w : Holds t) {a b : ℕ} (line : Line t a b) (L : ℕ) 
           terms-le (need t b) (row t b) L b v (term-whole (w .shape) o b (line .inside)),
         )
 
-    pub ends-without-le : (v : ℕ) → endsWithout v ≤ 2 * L
+    pub ends-without-le : (v : ℕ) → endsWithout t a b L v ≤ 2 * L
     ends-without-le v =
         let c = weak-scored w line .shape in
         let n = weak-buses w line in
@@ -93,4 +93,4 @@ module _ {t : List ℕ} (w : Holds t) {a b : ℕ} (line : Line t a b) (L : ℕ) 
     -- so no change is above 2 L or below -2 L
     pub change-le : (v : ℕ) → v < busCount t → natAbs (changeOver (networkOf t) (networkOf s) L v) ≤ 2 * L
     change-le v l =
-        subst (λ z. natAbs z ≤ 2 * L) (sym (change-by-ends v l)) (difference-abs (2 * L) (endsWithout v) (endsWith v) (ends-without-le v) (ends-with-le v))
+        subst (λ z. natAbs z ≤ 2 * L) (sym (change-by-ends v l)) (difference-abs (2 * L) (endsWithout t a b L v) (endsWith t a b L v) (ends-without-le v) (ends-with-le v))

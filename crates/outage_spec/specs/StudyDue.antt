@@ -45,11 +45,11 @@ StudyDue t k x = Due (studyCauses (networkOf t) k (length x)) (denominator (netw
 
 -- ---- how the causes decide on a network; the line count was read into m, the bus count into n
 
-module _ (t : List ℕ) (k : ℕ) (x : List ℤ) (h : holds t ≡ true) {m n : ℕ} (em : m ≡ lines t) (en : n ≡ busCount t) where
+module _ (t : List ℕ) (k : ℕ) (x : List ℤ) (h : holds t ≡ true) {m : ℕ} (em : m ≡ lines t) where
   pub no-line : m ≤ k → StudyDue t k x (refuses 18) x
   no-line g = on-held h (stop (ap not (le-ltb k (lines t) (omega arith))))
 
-  module _ (b : k < m) where
+  module _ (b : k < m) {n : ℕ} (en : n ≡ busCount t) where
     named : {o : Outcome ℕ} {y : List ℤ} → Due ((ltb (length x) (busCount t) ⇒ NumeratorsTooShort) ∷ []) (denominator (networkOf t)) (storedChanges t k x) x o y → StudyDue t k x o y
     named d = on-held h (pass (ap not (lt-ltb k (lines t) (omega arith))) d)
 
@@ -100,7 +100,7 @@ all-studied t k x {after = after} e f h b l =
     let line = line-named w k b in
     let weak = weak-scored w line in
     let over = line-over t h k b refl in
-    let due = enough t k x h refl refl b l refl refl in
+    let due = enough t k x h refl b refl l refl refl in
     let entry : (v : ℕ) → v < busCount t → signedAt after v ≡ change t k v = λ v m. ap (λ a. signedAt a v) (f ∙ sym (due .after)) ∙ entry-is t h k b x l v m in
     let full = watching (w .shape) (w .mirrored) in
     let left = watching (weak .shape) (weak .mirrored) in

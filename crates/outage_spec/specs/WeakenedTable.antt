@@ -44,27 +44,27 @@ kept false true true s y h = sym (and-false y)
 kept false true false s y h = sym (and-true y)
 kept false false r s y h = sym (and-true y)
 
+has-leaving : (a b i j : ℕ) → has j (leaving a b i) ≡ cond (eqb i a) (eqb j b) (cond (eqb i b) (eqb j a) false)
+has-leaving a b i j =
+    split (eqb i a)
+    (λ e. rw e (has-one j b))
+    (λ e. rw e (split (eqb i b) (λ f. rw f (has-one j a)) (λ f. rw f)))
+
+lower-leaving : (a b : ℕ) → leaving a b a ≡ b ∷ []
+lower-leaving a b = rw (eqb-self a)
+
 module _ {a b : ℕ} (apart : a < b) where
   not-both : (i : ℕ) → eqb i a ≡ true → eqb i b ≡ false
   not-both i e = ne-eqb i b (λ q. let p = eqb-true i a e in omega arith)
 
-  has-leaving : (i j : ℕ) → has j (leaving a b i) ≡ cond (eqb i a) (eqb j b) (cond (eqb i b) (eqb j a) false)
-  has-leaving i j =
-      split (eqb i a)
-      (λ e. rw e (has-one j b))
-      (λ e. rw e (split (eqb i b) (λ f. rw f (has-one j a)) (λ f. rw f)))
-
   -- each leaves the row of the other
   leaving-sym : (i j : ℕ) → has j (leaving a b i) ≡ has i (leaving a b j)
-  leaving-sym i j = has-leaving i j ∙ same-leaving (eqb i a) (eqb i b) (eqb j a) (eqb j b) (not-both i) (not-both j) ∙ sym (has-leaving j i)
+  leaving-sym i j = has-leaving a b i j ∙ same-leaving (eqb i a) (eqb i b) (eqb j a) (eqb j b) (not-both i) (not-both j) ∙ sym (has-leaving a b j i)
 
-  pub lower-leaving : leaving a b a ≡ b ∷ []
-  lower-leaving = rw (eqb-self a)
-
-  pub upper-leaving : leaving a b b ≡ a ∷ []
+  upper-leaving : leaving a b b ≡ a ∷ []
   upper-leaving = rw (ne-eqb b a (λ e. omega arith), eqb-self b)
 
-pub other-leaving : {a b : ℕ} (i : ℕ) → (i ≡ a → ⊥) → (i ≡ b → ⊥) → leaving a b i ≡ []
+other-leaving : {a b : ℕ} (i : ℕ) → (i ≡ a → ⊥) → (i ≡ b → ⊥) → leaving a b i ≡ []
 other-leaving {a} {b} i p q = rw (ne-eqb i a p, ne-eqb i b q)
 
 -- ---- the table without the line from a to b
@@ -102,7 +102,7 @@ module _ {t : List ℕ} (w : Holds t) {a b : ℕ} (line : Line t a b) where
 
   -- an end's row is without the other end, and every other row is as it was
   pub lower-row : row (withoutPair t a b) a ≡ without (b ∷ []) (row t a)
-  lower-row = weak-row a lower-inside ∙ ap (λ s. without s (row t a)) (lower-leaving (line .ascends))
+  lower-row = weak-row a lower-inside ∙ ap (λ s. without s (row t a)) (lower-leaving a b)
 
   pub upper-row : row (withoutPair t a b) b ≡ without (a ∷ []) (row t b)
   upper-row = weak-row b (line .inside) ∙ ap (λ s. without s (row t b)) (upper-leaving (line .ascends))
@@ -139,7 +139,7 @@ module _ {t : List ℕ} (w : Holds t) {a b : ℕ} (line : Line t a b) where
     neighbours = λ i j l.
         ap (has j) (weak-row i l)
         ∙ has-without j (leaving a b i) (row t i)
-        ∙ ap (λ x. not x && has j (row t i)) (has-leaving (line .ascends) i j)
+        ∙ ap (λ x. not x && has j (row t i)) (has-leaving a b i j)
         ∙ kept (eqb i a) (eqb i b) (eqb j a) (eqb j b) (has j (row t i)) (not-both (line .ascends) i);
   }
 

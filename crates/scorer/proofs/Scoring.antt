@@ -1,6 +1,6 @@
 -- How the code scores all buses: each adds its terms to the numerators, and what all have given is the game's formula.
 use mathlib.Core.List.{List}
-use mathlib.Core.Path.{_≡_, sym, ap, ap₂, subst, _∙_}
+use mathlib.Core.Path.{_≡_, ap, subst, _∙_}
 use Prim.Native.Nat.{ℕ, _+_, _*_, _^_, _≤_, _<_}
 use native.Mathlib.Nat.{mul-le-mul}
 use native.Mathlib.Omega.{arith}
@@ -18,7 +18,7 @@ use Rattle.share_spec.specs.TableGame.{game-on, term-whole}
 use Rattle.share_spec.specs.TermsGiven.{termTo, termsFrom, term-by-row, terms-le, givenBy, all-given, none-given}
 use Rattle.share_terms.specs.Added.{Added}
 use Rattle.share_terms.specs.Adding.{added-same, added-both, cleared-long, cleared-zero, added-zeros}
-use Rattle.share_terms.specs.RowTerms.{row-inside}
+use Rattle.share_terms.specs.RowTerms.{added-by, row-inside}
 use Rattle.scorer.specs.ScorerWork.{Room}
 
 -- ---- what one bus gives
@@ -27,14 +27,14 @@ module _ {t : List ℕ} (w : Scorable t) {L : ℕ} (o : Over t L) {bus : ℕ} (b
   given-le : (v : ℕ) → termTo (gameOf t) L bus v ≤ L
   given-le v = omega (arith, term-by-row t L bus v, terms-le (need t bus) (row t bus) L bus v (term-whole w o bus b))
 
-  -- its row r and its need k, as code has them
-  module _ {r : List ℕ} {k : ℕ} (er : r ≡ row t bus) (ek : k ≡ need t bus) where
+  -- its row r, as code has it
+  module _ {r : List ℕ} (er : r ≡ row t bus) where
     -- the numerators x have room for its terms
     pub terms-room : (x : List ℕ) → Room (busCount t) L x → ((bus < length x) × (at x bus + L < 2 ^ 64)) × ((v : ℕ) → v ∈ r → (v < length x) × (at x v + L < 2 ^ 64))
-    terms-room x room = (room bus b, λ v m. room v (row-inside w b er ek v m))
+    terms-room x room = (room bus b, λ v m. room v (row-inside w b er v m))
 
-    pub all-terms : {x y : List ℕ} → Added (termsFrom k r L bus) x y → Added (termTo (gameOf t) L bus) x y
-    all-terms a = added-same a (λ v. term-by-row t L bus v ∙ ap₂ (λ k r. termsFrom k r L bus v) (sym ek) (sym er))
+    pub all-terms : {k : ℕ} {x y : List ℕ} → k ≡ need t bus → Added (termsFrom k r L bus) x y → Added (termTo (gameOf t) L bus) x y
+    all-terms ek a = added-same (added-by L bus ek er a) (term-by-row t L bus)
 
 -- ---- bus by bus
 

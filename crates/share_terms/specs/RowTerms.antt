@@ -1,6 +1,6 @@
 -- The terms of a bus by its need and its row, as they are added to a list of sums: first what is left of its L, then what each bus of its row gets.
 use mathlib.Core.List.{List}
-use mathlib.Core.Path.{_≡_, ap}
+use mathlib.Core.Path.{_≡_, sym, ap, ap₂}
 use Prim.Native.Nat.{ℕ, _+_, _-_, _*_, _^_, _≤_, _<_}
 use native.Mathlib.Omega.{arith}
 use lib.Dec.{eqb}
@@ -16,10 +16,10 @@ use Rattle.share_spec.specs.TableNetwork.{Over}
 use Rattle.share_spec.specs.TermsGiven.{termsFrom, terms-le}
 use Rattle.share_terms.specs.Unit.{unit, Divided}
 use Rattle.share_terms.specs.Added.{Added}
-use Rattle.share_terms.specs.Adding.{added-entry, added-both}
+use Rattle.share_terms.specs.Adding.{added-same, added-entry, added-both}
 
 -- the need k and the row r of a bus, and x, which it gives to each bus there, as code has them
-module _ (L bus k : ℕ) (r : List ℕ) (whole : Whole k (length r) L) {x : ℕ} (ex : x ≡ neighbourTerm k (length r) L) where
+module _ (L k : ℕ) (r : List ℕ) (whole : Whole k (length r) L) {x : ℕ} (ex : x ≡ neighbourTerm k (length r) L) where
   -- what is left of its L is its own term
   abbrev left : ℕ
   left = L - length r * x
@@ -30,12 +30,12 @@ module _ (L bus k : ℕ) (r : List ℕ) (whole : Whole k (length r) L) {x : ℕ}
   pub left-fits : length r * x ≤ L
   left-fits = omega (arith, all)
 
-  as-given : (v : ℕ) → termsFrom k r L bus v ≡ left * indicator (eqb v bus) + x * count v r
-  unfolding termsFrom
-  as-given v = let e : left ≡ ownTerm k (length r) L = omega (arith, all) in rw (e, ex)
+  -- they are added to the sums u, which have an entry for the bus
+  module _ (bus : ℕ) (u : List ℕ) (b : bus < length u) where
+    as-given : (v : ℕ) → termsFrom k r L bus v ≡ left * indicator (eqb v bus) + x * count v r
+    unfolding termsFrom
+    as-given v = let e : left ≡ ownTerm k (length r) L = omega (arith, all) in rw (e, ex)
 
-  -- the sums u have an entry for the bus
-  module _ (u : List ℕ) (b : bus < length u) where
     left-added : Added (λ v. left * indicator (eqb v bus)) u (set u bus (at u bus + left))
     left-added = added-entry u bus left b
 
@@ -49,15 +49,18 @@ module _ (L bus k : ℕ) (r : List ℕ) (whole : Whole k (length r) L) {x : ℕ}
     pub terms-added : {w : List ℕ} → Added (λ v. x * count v r) (set u bus (at u bus + left)) w → Added (termsFrom k r L bus) u w
     terms-added a = added-both left-added a as-given
 
--- what is asked of a bus of a table; its row r, its need k and its unit u are as code has them
-module _ {t : List ℕ} (w : Scorable t) {bus k : ℕ} {r : List ℕ} (b : bus < busCount t) (er : r ≡ row t bus) (ek : k ≡ need t bus) where
+-- need and row, as code has them, and as they are
+pub added-by : (L bus : ℕ) {k k′ : ℕ} {r r′ u v : List ℕ} → k ≡ k′ → r ≡ r′ → Added (termsFrom k r L bus) u v → Added (termsFrom k′ r′ L bus) u v
+added-by L bus ek er a = added-same a (λ v. ap₂ (λ k r. termsFrom k r L bus v) (sym ek) (sym er))
+
+-- a bus of a table, and its row r, as code has it
+module _ {t : List ℕ} (w : Scorable t) {bus : ℕ} {r : List ℕ} (b : bus < busCount t) (er : r ≡ row t bus) where
+  pub row-short : length r ≤ maxDegree
+  row-short = omega (arith, ap length er, degree-le w bus b)
+
   pub row-inside : (v : ℕ) → v ∈ r → v < busCount t
   row-inside v m = valid-below (row-valid w bus b) v (rw er at m)
 
-  pub terms-asked : {L u : ℕ} → Over t L → u ≡ unit L (length r) → (1 ≤ k) × (length r ≤ maxDegree) × Divided (length r) L × (u ≡ unit L (length r))
-  terms-asked o eu = (
-    omega (arith, w .needed bus b),
-    omega (arith, ap length er, degree-le w bus b),
-    record { divided = rw er (o .divided bus b); bounded = o .bounded },
-    eu,
-  )
+  -- what is asked of it; k is its need, and u its unit
+  pub terms-asked : {k L u : ℕ} → k ≡ need t bus → Over t L → u ≡ unit L (length r) → (1 ≤ k) × (length r ≤ maxDegree) × Divided (length r) L × (u ≡ unit L (length r))
+  terms-asked ek o eu = (omega (arith, w .needed bus b), row-short, record { divided = rw er (o .divided bus b); bounded = o .bounded }, eu)

@@ -10,8 +10,8 @@ use Rattle.lists.specs.Lists.{without}
 use Rattle.lists.specs.Without.{length-without-le}
 use Rattle.lists.specs.Writes.{written-front}
 use Rattle.table_spec.specs.Limits.{maxDegree}
-use Rattle.share_terms.specs.RowTerms.{terms-asked}
-use Rattle.outage.proofs.EndRows.{row-short, end-room, row-added, left-room, left-asked, left-added}
+use Rattle.share_terms.specs.RowTerms.{added-by, row-short, terms-asked}
+use Rattle.outage.proofs.EndRows.{end-room, left-is, left-room, left-asked}
 use Rattle.outage.proofs.add_end.Statement.{statement}
 use Rattle.outage.proofs.add_end.Tie as tie
 
@@ -24,7 +24,7 @@ module _ (c : tie.After-need) where
   start = listed .before .before .before .before
 
   short : length (listed .neighbours .result .now) ≤ maxDegree
-  short = row-short (start .pre .0 .0) (start .pre .0 .1) (listed .neighbours .ensures) (c .need .ensures)
+  short = row-short (start .pre .0 .0 .shape) (start .pre .0 .1) (listed .neighbours .ensures)
 
 unit-requires : tie.Need-unit-requires
 unit-requires c κs = short c
@@ -38,7 +38,7 @@ add-terms-requires c κs =
     let p = s .pre .1 .1 .0 in
     let er = listed n .neighbours .ensures in
     let ek = n .need .ensures in
-    (terms-asked (w .shape) b er ek (s .pre .0 .2) (c .before .unit .ensures), end-room w b er ek (s .args .over) (s .args .before .now) (p .0) (p .1))
+    (terms-asked (w .shape) b er ek (s .pre .0 .2) (c .before .unit .ensures), end-room w b er (s .args .over) (s .args .before .now) (p .0) (p .1))
 
 leave-out-requires : tie.Need-leave-out-requires
 leave-out-requires c κs = short (c .before .before .before .before .before .before)
@@ -77,8 +77,8 @@ add-terms-requires-2 c κs =
     let p = s .pre .1 .1 .1 in
     let er = listed n .neighbours .ensures in
     let ek = n .need .ensures in (
-      left-asked w b er ek (s .args .other) (left-row m) (s .pre .1 .0) (left-long m) (c .before .unit2 .ensures),
-      left-room w b er ek (s .args .other) (left-row m) (s .args .over) (s .args .after .now) (p .0) (p .1),
+      left-asked w b er (s .args .other) (left-row m) ek (s .pre .1 .0) (left-long m) (c .before .unit2 .ensures),
+      left-room w b er (s .args .other) (left-row m) (s .args .over) (s .args .after .now) (p .0) (p .1),
     )
 
 returns : tie.Need-returns
@@ -90,8 +90,8 @@ returns c =
     let b = s .pre .0 .1 in
     let er = listed n .neighbours .ensures in
     let ek = n .need .ensures in (
-      row-added w b er ek (s .args .over) (m .before .before .before .before .add-terms .ensures),
-      left-added w b er ek (s .args .other) (left-row m) (s .args .over) (c .before .before .add-terms2 .ensures),
+      added-by (s .args .over) (s .args .end) ek er (m .before .before .before .before .add-terms .ensures),
+      added-by (s .args .over) (s .args .end) ek (left-is w b er (s .args .other) (left-row m)) (c .before .before .add-terms2 .ensures),
     )
 
 pub add-end-spec : {M : Type 1} → statement M

@@ -2,7 +2,7 @@
 use borrow.Author.Needs.{needs}
 use native.Mathlib.Omega.{arith}
 use mathlib.Core.Bool.{true}
-use mathlib.Core.Path.{_≡_, refl}
+use mathlib.Core.Path.{_≡_}
 use Prim.Native.Nat.{_<_}
 use Rattle.table_spec.specs.Layout.{lines}
 use Rattle.table_spec.specs.Holds.{holds}
@@ -19,14 +19,14 @@ returns : tie.Need-returns
 returns c =
     let m = c .before in
     let s = m .before .before in
-    study-due _ _ _ (no-line (s .args .table .now) (s .args .line) (s .args .changes .now) (held s) (m .lines .ensures) refl (omega (arith, c .if1 .taken)))
+    study-due _ _ _ (no-line (s .args .table .now) (s .args .line) (s .args .changes .now) (held s) (m .lines .ensures) (omega (arith, c .if1 .taken)))
 
 returns-2 : tie.Need-returns-2
 returns-2 c =
     let e = c .before .before in
     let m = e .before in
     let s = m .before .before in
-    study-due _ _ _ (too-few (s .args .table .now) (s .args .line) (s .args .changes .now) (held s) (m .lines .ensures) (c .before .bus-count .ensures .0) (omega (arith, e .if1 .left)) (c .if2 .taken))
+    study-due _ _ _ (too-few (s .args .table .now) (s .args .line) (s .args .changes .now) (held s) (m .lines .ensures) (omega (arith, e .if1 .left)) (c .before .bus-count .ensures .0) (c .if2 .taken))
 
 study-over-requires : tie.Need-study-over-requires
 study-over-requires c κs =
@@ -45,7 +45,7 @@ returns-3 c =
     let m = e .before in
     let s = m .before .before in
     study-due _ _ _
-    (enough (s .args .table .now) (s .args .line) (s .args .changes .now) (held s) (m .lines .ensures) (f .before .bus-count .ensures .0) (omega (arith, e .if1 .left)) (f .if2 .left)
+    (enough (s .args .table .now) (s .args .line) (s .args .changes .now) (held s) (m .lines .ensures) (omega (arith, e .if1 .left)) (f .before .bus-count .ensures .0) (f .if2 .left)
     (d .denominator .ensures) (over-stored (s .args .table .now) (s .args .line) (s .args .changes .now) (d .denominator .ensures) (c .before .study-over .ensures)))
 
 pub study-spec : {M : Type 1} → statement M

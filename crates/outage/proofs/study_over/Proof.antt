@@ -18,7 +18,7 @@ module _ (c : tie.After-ends-of) where
   start = c .before .before
 
   line : Line (start .args .table .now) (c .ends-of .result .lower) (c .ends-of .result .upper)
-  line = found (start .pre .0 .0) (start .pre .0 .1) (c .ends-of .ensures .0) (c .ends-of .ensures .1) (start .pre .1 .0) (start .pre .1 .1)
+  line = found (start .pre .0 .0) (start .pre .0 .1) (c .ends-of .ensures .0) (c .ends-of .ensures .1)
 
 add-end-requires : tie.Need-add-end-requires
 add-end-requires c κs =
@@ -60,10 +60,10 @@ module _ (c : tie.After-add-end2) where
   abbrev named : tie.After-ends-of
   named = once .before .before .before
 
-  with-line : (v : ℕ) → at (c .add-end2 .last .1 .1 .1 .1 .0) v ≡ endsWith (start named .pre .0 .0) (line named) (start named .args .over) v
+  with-line : (v : ℕ) → at (c .add-end2 .last .1 .1 .1 .1 .0) v ≡ endsWith (start named .args .table .now) (named .ends-of .result .lower) (named .ends-of .result .upper) (start named .args .over) v
   with-line = both-added maxBuses (once .add-end .ensures .0) (c .add-end2 .ensures .0)
 
-  without-line : (v : ℕ) → at (c .add-end2 .last .1 .1 .1 .1 .1 .0) v ≡ endsWithout (start named .pre .0 .0) (line named) (start named .args .over) v
+  without-line : (v : ℕ) → at (c .add-end2 .last .1 .1 .1 .1 .1 .0) v ≡ endsWithout (start named .args .table .now) (named .ends-of .result .lower) (named .ends-of .result .upper) (start named .args .over) v
   without-line = both-added maxBuses (once .add-end .ensures .1) (c .add-end2 .ensures .1)
 
 store-requires : tie.Need-store-requires

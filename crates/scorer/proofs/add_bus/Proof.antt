@@ -35,7 +35,7 @@ add-terms-requires c κs =
     let er = n .before .neighbours .ensures in
     let ek = n .need .ensures in (
       terms-asked (s .pre .0 .0) (s .pre .0 .1) er ek (s .pre .0 .2) (unit-is n),
-      terms-room (s .pre .0 .0) (s .pre .0 .2) (s .pre .0 .1) er ek (s .args .numerators .now) (s .pre .1 .1),
+      terms-room (s .pre .0 .0) (s .pre .0 .2) (s .pre .0 .1) er (s .args .numerators .now) (s .pre .1 .1),
     )
 
 same-length : tie.Need-same-length

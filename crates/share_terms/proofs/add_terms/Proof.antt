@@ -26,7 +26,7 @@ module _ (c : tie.After-term) where
   term-is = c .term .ensures ∙ unit-term (start .pre .0 .0) (start .pre .0 .2 .divided) (start .pre .0 .3)
 
 sub-numerators : tie.Need-sub-numerators
-sub-numerators c = let s = start c in left-fits (s .args .over) (s .args .bus) (s .args .need) (s .args .row .now) (whole c) (term-is c)
+sub-numerators c = let s = start c in left-fits (s .args .over) (s .args .need) (s .args .row .now) (whole c) (term-is c)
 
 mul-numerators : tie.Need-mul-numerators
 mul-numerators c = omega (arith, sub-numerators c, start c .pre .0 .2 .bounded)
@@ -41,7 +41,7 @@ give-requires c κs =
     let e = c .before .before in
     let s = start e in
     λ v m.
-    let room = row-room (s .args .over) (s .args .bus) (s .args .need) (s .args .row .now) (whole e) (term-is e) (s .args .numerators .now) (s .pre .1 .0 .0) (s .pre .1 .1) v m in
+    let room = row-room (s .args .over) (s .args .need) (s .args .row .now) (whole e) (term-is e) (s .args .bus) (s .args .numerators .now) (s .pre .1 .0 .0) (s .pre .1 .1) v m in
     (room .0, omega (arith, room .1))
 
 same-length : tie.Need-same-length
@@ -55,7 +55,7 @@ returns c =
     let g = c .before .before in
     let e = g .before .before .before in
     let s = start e in
-    terms-added (s .args .over) (s .args .bus) (s .args .need) (s .args .row .now) (whole e) (term-is e) (s .args .numerators .now) (s .pre .1 .0 .0) (g .give .ensures)
+    terms-added (s .args .over) (s .args .need) (s .args .row .now) (whole e) (term-is e) (s .args .bus) (s .args .numerators .now) (s .pre .1 .0 .0) (g .give .ensures)
 
 pub add-terms-spec : {M : Type 1} → statement M
 add-terms-spec =
