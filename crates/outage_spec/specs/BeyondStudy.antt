@@ -1,6 +1,6 @@
 -- Slices that begin with the same table get the same answer from the outage study, and the same entries.
 use mathlib.Core.List.{List, _++_}
-use mathlib.Core.Path.{_≡_, ap, ap₂, _∙_, fun-ext}
+use mathlib.Core.Path.{_≡_, sym, ap, ap₂, _∙_, fun-ext}
 use Prim.Native.Nat.{ℕ, _≤_}
 use lib.IntN.{ℤ}
 use lib.ListN.{length, drop}
@@ -16,6 +16,7 @@ use Rattle.two_way.specs.TwoWay.{networkOf}
 use Rattle.two_way.specs.SameTable.{same-network}
 use Rattle.outage_spec.specs.Outage.{leaving, withoutPair, withoutLine, changeOf, change}
 use Rattle.outage_spec.specs.StudyOutcome.{studyCauses, studyOutcome, storedChanges, changesAfter}
+use Rattle.outage_spec.specs.StudyDue.{stored-changes}
 
 -- the table without line k, by the sections of the full one
 abbrev made : ℕ → List ℕ → (ℕ → List ℕ) → ℕ → List ℕ
@@ -33,11 +34,10 @@ module _ {a b : List ℕ} (w : SameNetwork a b) where
   same-outcome k lent = ap (λ N. outcome (studyCauses N k lent) (denominator N)) (same-network w)
 
   same-stored : (k : ℕ) (x : List ℤ) → changesAfter a k x ≡ changesAfter b k x
-  unfolding storedChanges
   same-stored k x =
       ap (λ N. valuesOr x (outcome (studyCauses N k (length x)) (storedChanges a k x))) (same-network w)
       ∙ ap (λ s. valuesOr x (outcome (studyCauses (networkOf b) k (length x)) s))
-      (ap₂ (λ n f. signedBelow n f ++ drop n x) (w .sizes) (fun-ext (same-change k)))
+      (stored-changes a k x ∙ ap₂ (λ n f. signedBelow n f ++ drop n x) (w .sizes) (fun-ext (same-change k)) ∙ sym (stored-changes b k x))
 
 -- ENTRIES BEYOND THE TABLE NEVER MATTER, x or y
 pub beyond-study : (t x y : List ℕ) → entries (startsAt t) t ≤ length t → (k : ℕ) (changes : List ℤ)

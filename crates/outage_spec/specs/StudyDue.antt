@@ -7,7 +7,7 @@ use native.Mathlib.Omega.{arith}
 use borrow.Author.Tests.{lt-ltb, le-ltb}
 use lib.Dec.{ltb}
 use lib.IntN.{ℤ, pos, natAbs, _*ℤ_}
-use lib.ListN.{length, drop, List·getD-append}
+use lib.ListN.{length, drop, getD, List·getD-append}
 use Rattle.signed.specs.Signed.{signedBelow, signedAt}
 use Rattle.signed.specs.SignedLists.{length-signedBelow, signedBelow-at, totalBelow-same}
 use Rattle.refusals.specs.declared.Refusal.the-variants.{NumeratorsTooShort}
@@ -59,11 +59,18 @@ module _ (t : List ℕ) (k : ℕ) (x : List ℤ) (h : holds t ≡ true) {m : ℕ
     pub enough : n ≤ length x → {L : ℕ} {y : List ℤ} → L ≡ denominator (networkOf t) → y ≡ storedChanges t k x → StudyDue t k x (gives L) y
     enough l e f = named (not-below refl en l (accept e f))
 
--- changes over a number that was found to be the L of the full network
+-- what is stored: the changes, and behind them what was there
+pub stored-changes : (t : List ℕ) (k : ℕ) (x : List ℤ) → storedChanges t k x ≡ signedBelow (busCount t) (change t k) ++ drop (busCount t) x
+unfolding storedChanges
+stored-changes t k x = refl
+
+-- so are changes over a number that was found to be the L of the full network
 pub over-stored : (t : List ℕ) (k : ℕ) (x : List ℤ) {L : ℕ} {y : List ℤ} → L ≡ denominator (networkOf t)
     → y ≡ signedBelow (busCount t) (changeOver (networkOf t) (networkOf (withoutLine t k)) L) ++ drop (busCount t) x → y ≡ storedChanges t k x
-unfolding storedChanges
-over-stored t k x e f = f ∙ ap (λ L. signedBelow (busCount t) (changeOver (networkOf t) (networkOf (withoutLine t k)) L) ++ drop (busCount t) x) e
+over-stored t k x e f =
+    f
+    ∙ ap (λ L. signedBelow (busCount t) (changeOver (networkOf t) (networkOf (withoutLine t k)) L) ++ drop (busCount t) x) e
+    ∙ sym (stored-changes t k x)
 
 -- what is due is answered and stored
 pub study-due : (t : List ℕ) (k : ℕ) (x : List ℤ) {o : Outcome ℕ} {y : List ℤ} → StudyDue t k x o y → (o ≡ studyOutcome t k (length x)) × (y ≡ changesAfter t k x)
@@ -87,9 +94,10 @@ module _ (t : List ℕ) (h : holds t ≡ true) (k : ℕ) (b : k < lines t) where
   -- entries enough are lent
   module _ (x : List ℤ) (l : busCount t ≤ length x) where
     entry-is : (v : ℕ) → v < busCount t → signedAt (storedChanges t k x) v ≡ change t k v
-    unfolding storedChanges signedAt
+    unfolding signedAt
     entry-is v m =
-        List·getD-append (signedBelow (busCount t) (change t k)) (drop (busCount t) x) (pos 0) v (omega (arith, length-signedBelow (busCount t) (change t k)))
+        ap (λ l. getD l v (pos 0)) (stored-changes t k x)
+        ∙ List·getD-append (signedBelow (busCount t) (change t k)) (drop (busCount t) x) (pos 0) v (omega (arith, length-signedBelow (busCount t) (change t k)))
         ∙ signedBelow-at (change t k) (busCount t) v m
 
 -- ALL THAT IS PROMISED of what is answered and stored

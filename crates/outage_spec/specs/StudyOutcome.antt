@@ -1,6 +1,6 @@
 -- What the outage study answers and stores, for every slice and line number, and what its changes come to.
 -- Definitions only.
-use mathlib.Core.Bool.{_&&_, _||_, false, true, not}
+use mathlib.Core.Bool.{true, false, not, _&&_, _||_}
 use mathlib.Core.List.{List, [], _∷_, _++_}
 use mathlib.Core.Path.{_≡_}
 use Prim.Native.Nat.{ℕ, _≤_, _<_}
