@@ -79,9 +79,6 @@ module _ {t : List ℕ} (w : Holds t) {a b : ℕ} (line : Line t a b) where
   pub lower-inside : a < n
   lower-inside = omega (arith, line .ascends, line .inside)
 
-  pub joined-back : has a (row t b) ≡ true
-  joined-back = mirror t w b a (line .inside) lower-inside ∙ line .joined
-
   long : length (needs t) ≡ n
   long = length-needs t (w .shape .complete)
 
@@ -96,7 +93,7 @@ module _ {t : List ℕ} (w : Holds t) {a b : ℕ} (line : Line t a b) where
   pub weak-need : (i : ℕ) → need (withoutPair t a b) i ≡ need t i
   weak-need i = ap (λ q. at q i) weak-needs
 
-  pub weak-row : (i : ℕ) → i < n → row (withoutPair t a b) i ≡ rows i
+  weak-row : (i : ℕ) → i < n → row (withoutPair t a b) i ≡ rows i
   unfolding withoutPair
   weak-row i l = rw append-nil at (made-row n (needs t) rows [] long i l)
 

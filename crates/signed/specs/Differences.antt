@@ -47,10 +47,10 @@ difference-same a b c d e = difference-sub a b ∙ sub-same a b c d e ∙ sym (d
 pub difference-none : (a b : ℕ) → a ≡ b → difference a b ≡ pos 0
 difference-none a b e = above a b (omega arith) ∙ ap pos (omega arith)
 
-pub difference-pos : (a : ℕ) → difference a 0 ≡ pos a
+difference-pos : (a : ℕ) → difference a 0 ≡ pos a
 difference-pos a = above a 0 (omega arith) ∙ ap pos (omega arith)
 
-pub difference-neg : (b : ℕ) → difference 0 b ≡ negℤ (pos b)
+difference-neg : (b : ℕ) → difference 0 b ≡ negℤ (pos b)
 difference-neg zero = difference-none 0 0 refl
 difference-neg (suc b) = below 0 (suc b) (omega arith) ∙ ap negsuc (omega arith)
 
@@ -69,7 +69,7 @@ add-sub a b c d =
     ap₂ _+ℤ_ (sub-above a b h) (sub-above c d k) ∙ ap pos (omega arith) ∙ sym (sub-above (a + c) (b + d) (omega arith))))
 
 -- they add up part by part
-pub difference-add : (a b c d : ℕ) → difference a b +ℤ difference c d ≡ difference (a + c) (b + d)
+difference-add : (a b c d : ℕ) → difference a b +ℤ difference c d ≡ difference (a + c) (b + d)
 difference-add a b c d = ap₂ _+ℤ_ (difference-sub a b) (difference-sub c d) ∙ add-sub a b c d ∙ sym (difference-sub (a + c) (b + d))
 
 -- and are multiplied so
@@ -86,7 +86,7 @@ difference-scale k a b =
     ap (λ z. pos k *ℤ z) (above a b h) ∙ sym (difference-pos (k * m)) ∙ difference-same (k * m) 0 (k * a) (k * b) (omega (arith, ap (λ x. k * x) e)))
 
 -- a difference is as small as its parts, as the machine measures it, and without its sign
-pub difference-mag : (m a b : ℕ) → a < m → b < m → mag (difference a b) < m
+difference-mag : (m a b : ℕ) → a < m → b < m → mag (difference a b) < m
 difference-mag m a b p q =
     split (ltb a b)
     (λ t. let h = ltb-true a b t in rw (below a b h) (omega arith))

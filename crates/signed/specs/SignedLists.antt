@@ -40,7 +40,7 @@ totalBelow-same f g (suc n) h =
 
 -- ---- a loop that stores f 0, f 1, .. at the front of x
 
-pub signedAt-set : (x : List ℤ) (j : ℕ) (z : ℤ) (v : ℕ) → j < length x → signedAt (set x j z) v ≡ cond (eqb v j) z (signedAt x v)
+signedAt-set : (x : List ℤ) (j : ℕ) (z : ℤ) (v : ℕ) → j < length x → signedAt (set x j z) v ≡ cond (eqb v j) z (signedAt x v)
 unfolding signedAt
 signedAt-set x j z v l =
     split (eqb v j)
