@@ -6,12 +6,12 @@ use Prim.Native.Nat.{ℕ, zero, suc, _<_}
 use native.Mathlib.Omega.{arith}
 use lib.Dec.{eqb}
 use Rattle.refusals.specs.declared.Refusal.{Refusal}
-use Rattle.refusals.specs.declared.Refusal.the-variants.{FileTooShort, BusCount, Need, LineCount, FileTooLong, LineEnds, DegreeTooHigh, NoDenominator, TableTooShort, NoNetwork, NumeratorsTooShort, NoSuchBus, TextTooShort, OutOfOrder, BytesTooShort, NeedAboveDegree, NoSuchLine}
+use Rattle.refusals.specs.declared.Refusal.the-variants.{FileTooShort, BusCount, Need, LineCount, FileTooLong, LineEnds, DegreeTooHigh, NoDenominator, TableTooShort, NoNetwork, NumeratorsTooShort, NoSuchBus, TextTooShort, OutOfOrder, BytesTooShort, NeedAboveDegree, NoSuchLine, WeightCount, Weight}
 use Rattle.refusals.specs.Numbers.{numberOf}
 
 -- all refusals
 refusals : List Refusal
-refusals = FileTooShort ∷ BusCount ∷ Need ∷ LineCount ∷ FileTooLong ∷ LineEnds ∷ DegreeTooHigh ∷ NoDenominator ∷ TableTooShort ∷ NoNetwork ∷ NumeratorsTooShort ∷ NoSuchBus ∷ TextTooShort ∷ OutOfOrder ∷ BytesTooShort ∷ NeedAboveDegree ∷ NoSuchLine ∷ []
+refusals = FileTooShort ∷ BusCount ∷ Need ∷ LineCount ∷ FileTooLong ∷ LineEnds ∷ DegreeTooHigh ∷ NoDenominator ∷ TableTooShort ∷ NoNetwork ∷ NumeratorsTooShort ∷ NoSuchBus ∷ TextTooShort ∷ OutOfOrder ∷ BytesTooShort ∷ NeedAboveDegree ∷ NoSuchLine ∷ WeightCount ∷ Weight ∷ []
 
 -- the first of number k
 ofNumber : ℕ → List Refusal → Refusal
@@ -40,6 +40,8 @@ back OutOfOrder = refl
 back BytesTooShort = refl
 back NeedAboveDegree = refl
 back NoSuchLine = refl
+back WeightCount = refl
+back Weight = refl
 
 -- no two refusals have one number
 pub number-injective : (a b : Refusal) → numberOf a ≡ numberOf b → a ≡ b

@@ -3,7 +3,7 @@
 -- Definitions only.
 use Prim.Native.Nat.{ℕ}
 use Rattle.refusals.specs.declared.Refusal.{Refusal}
-use Rattle.refusals.specs.declared.Refusal.the-variants.{FileTooShort, BusCount, Need, LineCount, FileTooLong, LineEnds, DegreeTooHigh, NoDenominator, TableTooShort, NoNetwork, NumeratorsTooShort, NoSuchBus, TextTooShort, OutOfOrder, BytesTooShort, NeedAboveDegree, NoSuchLine}
+use Rattle.refusals.specs.declared.Refusal.the-variants.{FileTooShort, BusCount, Need, LineCount, FileTooLong, LineEnds, DegreeTooHigh, NoDenominator, TableTooShort, NoNetwork, NumeratorsTooShort, NoSuchBus, TextTooShort, OutOfOrder, BytesTooShort, NeedAboveDegree, NoSuchLine, WeightCount, Weight}
 
 abbrev pub numberOf : Refusal → ℕ
 numberOf FileTooShort = 1
@@ -23,3 +23,5 @@ numberOf OutOfOrder = 15
 numberOf BytesTooShort = 16
 numberOf NeedAboveDegree = 17
 numberOf NoSuchLine = 18
+numberOf WeightCount = 19
+numberOf Weight = 20

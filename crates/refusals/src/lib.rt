@@ -11,7 +11,7 @@ pub enum Refusal {
     Need,
     // The line count is above the limit.
     LineCount,
-    // Bytes follow the last record.
+    // Bytes follow the last section.
     FileTooLong,
     // A record names a bus that the network does not have, or one bus twice.
     LineEnds,
@@ -37,6 +37,10 @@ pub enum Refusal {
     NeedAboveDegree,
     // The network does not have the line.
     NoSuchLine,
+    // The weight count is not the bus count.
+    WeightCount,
+    // A weight is 0 or above the limit.
+    Weight,
 }
 
 // How many bytes a call wrote at the front of those lent, or why none.
@@ -68,6 +72,8 @@ impl Refusal {
             Refusal::BytesTooShort => 16,
             Refusal::NeedAboveDegree => 17,
             Refusal::NoSuchLine => 18,
+            Refusal::WeightCount => 19,
+            Refusal::Weight => 20,
         }
     }
 }
