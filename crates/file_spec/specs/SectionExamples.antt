@@ -6,7 +6,7 @@ use Prim.Native.Nat.{ℕ}
 use Rattle.lists.specs.Lists.{at}
 use Rattle.lists.specs.Below.{allBelow}
 use Rattle.refusals.specs.Outcomes.{gives, refuses}
-use Rattle.table_spec.specs.Holds.{within, needsInRange}
+use Rattle.table_spec.specs.Holds.{within, inRange}
 use Rattle.file_spec.specs.FileBytes.{wordAt, needBytes, records, firstEnd, secondEnd}
 use Rattle.file_spec.specs.Sections.{endsBefore, goesOn, sectionsOutcome, twoBuses, soundEnds}
 
@@ -27,7 +27,7 @@ unfolding path cut records wordAt at
 path-ends = (refl, refl)
 
 path-read : sectionsOutcome path ≡ gives (record { buses = 3; lines = 2 })
-unfolding path cut needBytes wordAt at endsBefore goesOn within needsInRange allBelow
+unfolding path cut needBytes wordAt at endsBefore goesOn within inRange allBelow
 path-read = refl
 
 refused :
@@ -52,12 +52,12 @@ refused :
     ∷ []
     )
     ≡ map refuses (1 ∷ 1 ∷ 2 ∷ 2 ∷ 1 ∷ 3 ∷ 3 ∷ 1 ∷ 4 ∷ 1 ∷ 1 ∷ 5 ∷ [])
-unfolding path cut needBytes wordAt at endsBefore goesOn within needsInRange allBelow
+unfolding path cut needBytes wordAt at endsBefore goesOn within inRange allBelow
 refused = refl
 
 -- a need of 24 is allowed, and so are 512 buses and 5,888 lines: what is missing is what follows them
 allowed : map sectionsOutcome ((1 ∷ 0 ∷ 24 ∷ []) ∷ (0 ∷ 2 ∷ []) ∷ (1 ∷ 0 ∷ 1 ∷ 0 ∷ 23 ∷ []) ∷ []) ≡ map refuses (1 ∷ 1 ∷ 1 ∷ [])
-unfolding needBytes wordAt at endsBefore goesOn within needsInRange allBelow
+unfolding needBytes wordAt at endsBefore goesOn within inRange allBelow
 allowed = refl
 
 -- Path's ends, and the second record made 1, 1 and 1, 3

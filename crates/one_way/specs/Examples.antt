@@ -9,7 +9,7 @@ use Rattle.fraction.specs.Divisors.{gcdOf, lcmOf, lcmAll}
 use Rattle.game.specs.Orders.{orders}
 use Rattle.game.specs.Game.{seen, value, gain, ownTerm, neighbourTerm}
 use Rattle.table_spec.specs.Layout.{rowAt, needs, starts, neighbourNumbers, row}
-use Rattle.table_spec.specs.Holds.{within, complete, needsInRange, neverFall, shortRows, validEntry, validRow, validRows, soundRows}
+use Rattle.table_spec.specs.Holds.{within, complete, inRange, neverFall, shortRows, validEntry, validRow, validRows, soundRows}
 use Rattle.share_spec.specs.Formula.{numeratorOver}
 use Rattle.share_spec.specs.TableNetwork.{largestDegree, divisorsOf, gameOf}
 use Rattle.share_spec.specs.ShareOutcomes.{sharesOutcome, storedNumerators, numeratorsAfter, shareOutcome}
@@ -26,7 +26,7 @@ feeder-shares :
     × (numeratorsAfter (oneWay (feeder 2)) (9 ∷ 9 ∷ 9 ∷ []) ≡ 10 ∷ 4 ∷ 4 ∷ [])
     × (map (shareOutcome (oneWay (feeder 1))) (0 ∷ 3 ∷ []) ≡ gives (11, 6) ∷ refuses 13 ∷ [])
     × (map (λ k. sharesOutcome (oneWay (feeder k)) 4) (0 ∷ 3 ∷ []) ≡ refuses 11 ∷ refuses 11 ∷ [])
-unfolding feeder holdsOneWay storedNumerators numeratorOver ownTerm neighbourTerm divisorsOf largestDegree largestBelow lcmAll lcmOf gcdOf mapBelow joinBelow listBelow complete within needsInRange soundRows neverFall shortRows validRows validRow validEntry rowAt needs starts neighbourNumbers row at allBelow
+unfolding feeder holdsOneWay storedNumerators numeratorOver ownTerm neighbourTerm divisorsOf largestDegree largestBelow lcmAll lcmOf gcdOf mapBelow joinBelow listBelow complete within inRange soundRows neverFall shortRows validRows validRow validEntry rowAt needs starts neighbourNumbers row at allBelow
 feeder-shares = (refl, refl, refl, refl, refl)
 
 -- the gains of each bus over the six orders are its numerators

@@ -7,10 +7,11 @@ use native.Mathlib.Omega.{arith}
 use lib.ListN.{length}
 use Rattle.lists.specs.Tests.{and-left, and-right}
 use Rattle.refusals.specs.Outcomes.{Outcome}
+use Rattle.table_spec.specs.Limits.{maxNeed}
 use Rattle.table_spec.specs.Layout.{busCount, needs, starts, neighbourNumbers, startsAt}
 use Rattle.table_spec.specs.Holds.{complete, needsInRange, soundRows, Scorable, Holds}
 use Rattle.table_spec.specs.Rows.{length-needs, room}
-use Rattle.table_spec.specs.Facts.{complete-facts, needs-facts, rows-facts}
+use Rattle.table_spec.specs.Facts.{complete-facts, range-facts, rows-facts}
 use Rattle.share_spec.specs.Network.{Sound}
 use Rattle.share_spec.specs.FairFormula.{watching-converse, same-game}
 use Rattle.share_spec.specs.Formula.{numeratorOver}
@@ -30,7 +31,7 @@ scorable t w =
     let w2 = and-left (complete (startsAt t) t && needsInRange (needs t) && soundRows n s l) _ w in
     let w1 = and-left (complete (startsAt t) t && needsInRange (needs t)) _ w2 in
     let c = complete-facts (startsAt t) t (and-left (complete (startsAt t) t) _ w1) in
-    let f = needs-facts (needs t) (and-right (complete (startsAt t) t) _ w1) in
+    let f = range-facts maxNeed (needs t) (and-right (complete (startsAt t) t) _ w1) in
     let g = room (startsAt t) t c in
     let long = length-needs t c in
     record {

@@ -9,7 +9,7 @@ use Rattle.text.specs.Text.{decimal, signedDecimal, filled}
 use Rattle.fraction.specs.Divisors.{gcdOf, lcmOf, lcmAll}
 use Rattle.game.specs.Game.{ownTerm, neighbourTerm}
 use Rattle.table_spec.specs.Layout.{rowAt, laid, needs, starts, neighbourNumbers, row, lines, tableOf}
-use Rattle.table_spec.specs.Holds.{within, complete, needsInRange, neverFall, shortRows, validEntry, validRow, validRows, soundRows, mirrored, twoWay, holds}
+use Rattle.table_spec.specs.Holds.{within, complete, inRange, neverFall, shortRows, validEntry, validRow, validRows, soundRows, mirrored, twoWay, holds}
 use Rattle.table_spec.specs.Lines.{pairs}
 use Rattle.share_spec.specs.Formula.{numeratorOver}
 use Rattle.share_spec.specs.TableNetwork.{largestDegree, divisorsOf}
@@ -29,7 +29,7 @@ path line k = line ∷ 0 ∷ 3 ∷ 0 ∷ 1 ∷ k ∷ 1 ∷ 2 ∷ 0 ∷ 0 ∷ 0 �
 path-printed :
     (printed (path 0 1) ≡ 48 ∷ 32 ∷ 49 ∷ 10 ∷ 49 ∷ 32 ∷ 45 ∷ 50 ∷ 10 ∷ 50 ∷ 32 ∷ 49 ∷ 10 ∷ [])
     × (printed (path 2 1) ≡ 114 ∷ 101 ∷ 102 ∷ 117 ∷ 115 ∷ 101 ∷ 100 ∷ 32 ∷ 49 ∷ 56 ∷ 10 ∷ [])
-unfolding path difference changeOver withoutPair pairs holds twoWay complete soundRows neverFall shortRows validRows validRow validEntry mirrored needBytes records wordAt endsBefore goesOn within needsInRange allBelow anyBelow sumBelow soundEnds twoBuses outOfOrder turned falls pairBelow degreeTooHigh pairCount repeats joined joins fileTable tableOf laid neighbours listBelow joinBelow mapBelow filled signedDecimal decimal numeratorOver ownTerm neighbourTerm divisorsOf largestDegree largestBelow lcmAll lcmOf gcdOf lines rowAt needs starts neighbourNumbers row at
+unfolding path difference changeOver withoutPair pairs holds twoWay complete soundRows neverFall shortRows validRows validRow validEntry mirrored needBytes records wordAt endsBefore goesOn within inRange allBelow anyBelow sumBelow soundEnds twoBuses outOfOrder turned falls pairBelow degreeTooHigh pairCount repeats joined joins fileTable tableOf laid neighbours listBelow joinBelow mapBelow filled signedDecimal decimal numeratorOver ownTerm neighbourTerm divisorsOf largestDegree largestBelow lcmAll lcmOf gcdOf lines rowAt needs starts neighbourNumbers row at
 path-printed = (refl, refl)
 
 -- `refused 1` without two bytes and without a file behind them; `refused 17` for a file that Read refuses, whatever the line number
@@ -38,5 +38,5 @@ refused :
     × (printed (0 ∷ []) ≡ 114 ∷ 101 ∷ 102 ∷ 117 ∷ 115 ∷ 101 ∷ 100 ∷ 32 ∷ 49 ∷ 10 ∷ [])
     × (printed (0 ∷ 0 ∷ []) ≡ 114 ∷ 101 ∷ 102 ∷ 117 ∷ 115 ∷ 101 ∷ 100 ∷ 32 ∷ 49 ∷ 10 ∷ [])
     × (printed (path 9 3) ≡ 114 ∷ 101 ∷ 102 ∷ 117 ∷ 115 ∷ 101 ∷ 100 ∷ 32 ∷ 49 ∷ 55 ∷ 10 ∷ [])
-unfolding path difference changeOver withoutPair pairs holds twoWay complete soundRows neverFall shortRows validRows validRow validEntry mirrored needBytes records wordAt endsBefore goesOn within needsInRange allBelow anyBelow sumBelow soundEnds twoBuses outOfOrder turned falls pairBelow degreeTooHigh pairCount repeats joined joins fileTable tableOf laid neighbours listBelow joinBelow mapBelow filled signedDecimal decimal numeratorOver ownTerm neighbourTerm divisorsOf largestDegree largestBelow lcmAll lcmOf gcdOf lines rowAt needs starts neighbourNumbers row at
+unfolding path difference changeOver withoutPair pairs holds twoWay complete soundRows neverFall shortRows validRows validRow validEntry mirrored needBytes records wordAt endsBefore goesOn within inRange allBelow anyBelow sumBelow soundEnds twoBuses outOfOrder turned falls pairBelow degreeTooHigh pairCount repeats joined joins fileTable tableOf laid neighbours listBelow joinBelow mapBelow filled signedDecimal decimal numeratorOver ownTerm neighbourTerm divisorsOf largestDegree largestBelow lcmAll lcmOf gcdOf lines rowAt needs starts neighbourNumbers row at
 refused = (refl, refl, refl, refl)

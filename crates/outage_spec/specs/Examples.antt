@@ -11,7 +11,7 @@ use Rattle.refusals.specs.Outcomes.{Outcome, gives, refuses}
 use Rattle.fraction.specs.Divisors.{gcdOf, lcmOf, lcmAll}
 use Rattle.game.specs.Game.{ownTerm, neighbourTerm}
 use Rattle.table_spec.specs.Layout.{rowAt, laid, needs, starts, neighbourNumbers, row, lines, tableOf}
-use Rattle.table_spec.specs.Holds.{within, complete, needsInRange, neverFall, shortRows, validEntry, validRow, validRows, soundRows, mirrored, twoWay, holds}
+use Rattle.table_spec.specs.Holds.{within, complete, inRange, neverFall, shortRows, validEntry, validRow, validRows, soundRows, mirrored, twoWay, holds}
 use Rattle.table_spec.specs.Lines.{pairs}
 use Rattle.table_spec.specs.Examples.{path, square}
 use Rattle.share_spec.specs.TableNetwork.{largestDegree, divisorsOf}
@@ -50,5 +50,5 @@ cases =
     ∷ []
 
 all-studies : map (λ c. let x = c .lent in case (c .table) (c .line) x (studyOutcome (c .table) (c .line) (length x)) (changesAfter (c .table) (c .line) x)) cases ≡ cases
-unfolding cases storedChanges signedBelow changeOver difference withoutPair tableOf laid pairs listBelow numeratorOver ownTerm neighbourTerm divisorsOf largestDegree largestBelow lcmAll lcmOf gcdOf mapBelow joinBelow holds twoWay complete within needsInRange soundRows neverFall shortRows validRows validRow validEntry mirrored rowAt needs starts neighbourNumbers row at allBelow lines sumBelow
+unfolding cases storedChanges signedBelow changeOver difference withoutPair tableOf laid pairs listBelow numeratorOver ownTerm neighbourTerm divisorsOf largestDegree largestBelow lcmAll lcmOf gcdOf mapBelow joinBelow holds twoWay complete within inRange soundRows neverFall shortRows validRows validRow validEntry mirrored rowAt needs starts neighbourNumbers row at allBelow lines sumBelow
 all-studies = refl

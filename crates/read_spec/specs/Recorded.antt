@@ -12,10 +12,11 @@ use Rattle.lists.specs.Loops.{allBelow-at}
 use Rattle.refusals.specs.Outcomes.{Outcome, gives, refuses, valuesOr}
 use Rattle.refusals.specs.Causes.{part-answered}
 use Rattle.refusals.specs.Due.{both}
+use Rattle.table_spec.specs.Limits.{maxNeed}
 use Rattle.table_spec.specs.Layout.{busCount, lines, tableEntries, tableOf}
 use Rattle.table_spec.specs.Holds.{Holds}
 use Rattle.table_spec.specs.TableOutcomes.{SameNetwork}
-use Rattle.table_spec.specs.Facts.{needs-facts}
+use Rattle.table_spec.specs.Facts.{range-facts}
 use Rattle.table_spec.specs.Laid.{length-tableOf, made-busCount, made-needs, made-last, made-row, made-holds, made-beyond}
 use Rattle.table_spec.specs.LineCount.{two-for-each}
 use Rattle.network.specs.declared.Counts.{Counts}
@@ -64,7 +65,7 @@ module _ (f t : List ℕ) {c : Counts} (e : readOutcome f (length t) ≡ gives c
 
   held : Holds (tableOf n q rows ++ rest)
   held =
-      made-holds n q rows rest long (whole f t e .first .positive) (whole f t e .first .buses) (needs-facts q (whole f t e .first .needs))
+      made-holds n q rows rest long (whole f t e .first .positive) (whole f t e .first .buses) (range-facts maxNeed q (whole f t e .first .needs))
       (λ i b. neighbours-valid n m r ends i) (neighbours-max-le n m r (none-too-high f t e))
       (λ i j b c. neighbours-joined n m r ends i j ∙ joined-sym m r i j ∙ sym (neighbours-joined n m r ends j i)) (λ i b. allBelow-at _ n (not-false _ (none-above f t e)) b)
 

@@ -9,7 +9,7 @@ use Rattle.refusals.specs.Outcomes.{Outcome, gives, refuses}
 use Rattle.fraction.specs.Divisors.{gcdOf, lcmOf, lcmAll}
 use Rattle.game.specs.Game.{ownTerm, neighbourTerm}
 use Rattle.table_spec.specs.Layout.{rowAt, needs, starts, neighbourNumbers, row}
-use Rattle.table_spec.specs.Holds.{within, complete, needsInRange, neverFall, shortRows, validEntry, validRow, validRows, soundRows, mirrored, twoWay, holds}
+use Rattle.table_spec.specs.Holds.{within, complete, inRange, neverFall, shortRows, validEntry, validRow, validRows, soundRows, mirrored, twoWay, holds}
 use Rattle.table_spec.specs.Examples.{path}
 use Rattle.share_spec.specs.TableNetwork.{gameOf, largestDegree, divisorsOf}
 use Rattle.share_spec.specs.Formula.{numeratorOver}
@@ -54,11 +54,11 @@ cases =
     ∷ []
 
 all-shares : map (λ c. let N = networkOf (c .table) in let x = c .lent in case (c .table) x (sharesOutcome N (length x)) (numeratorsAfter N x)) cases ≡ cases
-unfolding cases storedNumerators numeratorOver ownTerm neighbourTerm divisorsOf largestDegree largestBelow lcmAll lcmOf gcdOf mapBelow joinBelow holds twoWay complete within needsInRange soundRows neverFall shortRows validRows validRow validEntry mirrored rowAt needs starts neighbourNumbers row at allBelow
+unfolding cases storedNumerators numeratorOver ownTerm neighbourTerm divisorsOf largestDegree largestBelow lcmAll lcmOf gcdOf mapBelow joinBelow holds twoWay complete within inRange soundRows neverFall shortRows validRows validRow validEntry mirrored rowAt needs starts neighbourNumbers row at allBelow
 all-shares = refl
 
 one-share :
     (map (shareOutcome (networkOf (path 2))) (0 ∷ 1 ∷ 2 ∷ 3 ∷ []) ≡ gives (4, 6) ∷ gives (10, 6) ∷ gives (4, 6) ∷ refuses 13 ∷ [])
     × (map (λ k. shareOutcome (networkOf (path k)) 3) (0 ∷ 3 ∷ []) ≡ refuses 11 ∷ refuses 11 ∷ [])
-unfolding path numeratorOver ownTerm neighbourTerm divisorsOf largestDegree largestBelow lcmAll lcmOf gcdOf mapBelow joinBelow holds twoWay complete within needsInRange soundRows neverFall shortRows validRows validRow validEntry mirrored rowAt needs starts neighbourNumbers row at allBelow
+unfolding path numeratorOver ownTerm neighbourTerm divisorsOf largestDegree largestBelow lcmAll lcmOf gcdOf mapBelow joinBelow holds twoWay complete within inRange soundRows neverFall shortRows validRows validRow validEntry mirrored rowAt needs starts neighbourNumbers row at allBelow
 one-share = (refl, refl)

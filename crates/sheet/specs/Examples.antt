@@ -8,7 +8,7 @@ use Rattle.text.specs.Text.{decimal, filled}
 use Rattle.fraction.specs.Divisors.{gcdOf, lcmOf, lcmAll}
 use Rattle.game.specs.Game.{ownTerm, neighbourTerm}
 use Rattle.table_spec.specs.Layout.{rowAt, needs, starts, neighbourNumbers, row, lines}
-use Rattle.table_spec.specs.Holds.{within, complete, needsInRange, neverFall, shortRows, validEntry, validRow, validRows, soundRows, mirrored, twoWay, holds}
+use Rattle.table_spec.specs.Holds.{within, complete, inRange, neverFall, shortRows, validEntry, validRow, validRows, soundRows, mirrored, twoWay, holds}
 use Rattle.table_spec.specs.Examples.{path}
 use Rattle.share_spec.specs.Formula.{numeratorOver}
 use Rattle.share_spec.specs.TableNetwork.{largestDegree, divisorsOf}
@@ -38,12 +38,12 @@ path-answers :
     × (map (lineOutcome (networkOf (path 1)) 4) (0 ∷ 99 ∷ []) ≡ refuses 13 ∷ refuses 13 ∷ [])
     × (map (lineOutcome (networkOf (path 1)) 0) (22 ∷ 23 ∷ 24 ∷ []) ≡ refuses 14 ∷ gives 23 ∷ gives 23 ∷ [])
     × (map (lineOutcome (networkOf (path 1)) 3) (11 ∷ 12 ∷ []) ≡ refuses 14 ∷ gives 12 ∷ [])
-unfolding path filled decimal numeratorOver ownTerm neighbourTerm divisorsOf largestDegree largestBelow lcmAll lcmOf gcdOf mapBelow joinBelow lines sumBelow holds twoWay complete within needsInRange soundRows neverFall shortRows validRows validRow validEntry mirrored allBelow rowAt needs starts neighbourNumbers row at
+unfolding path filled decimal numeratorOver ownTerm neighbourTerm divisorsOf largestDegree largestBelow lcmAll lcmOf gcdOf mapBelow joinBelow lines sumBelow holds twoWay complete within inRange soundRows neverFall shortRows validRows validRow validEntry mirrored allBelow rowAt needs starts neighbourNumbers row at
 path-answers = (refl, refl, refl, refl)
 
 -- the line at the front, and what stood behind it; refused, nothing is changed
 path-after :
     (lineAfter (networkOf (path 1)) 1 (7 ∷ 7 ∷ 7 ∷ 7 ∷ 7 ∷ 7 ∷ 7 ∷ 7 ∷ 7 ∷ 7 ∷ 7 ∷ 7 ∷ 7 ∷ 8 ∷ []) ≡ 48 ∷ 32 ∷ 49 ∷ 32 ∷ 49 ∷ 32 ∷ 53 ∷ 32 ∷ 53 ∷ 47 ∷ 54 ∷ 10 ∷ 7 ∷ 8 ∷ [])
     × (lineAfter (networkOf (path 1)) 1 (7 ∷ 8 ∷ []) ≡ 7 ∷ 8 ∷ [])
-unfolding path filled decimal numeratorOver ownTerm neighbourTerm divisorsOf largestDegree largestBelow lcmAll lcmOf gcdOf mapBelow joinBelow lines sumBelow holds twoWay complete within needsInRange soundRows neverFall shortRows validRows validRow validEntry mirrored allBelow rowAt needs starts neighbourNumbers row at
+unfolding path filled decimal numeratorOver ownTerm neighbourTerm divisorsOf largestDegree largestBelow lcmAll lcmOf gcdOf mapBelow joinBelow lines sumBelow holds twoWay complete within inRange soundRows neverFall shortRows validRows validRow validEntry mirrored allBelow rowAt needs starts neighbourNumbers row at
 path-after = (refl, refl)

@@ -9,7 +9,7 @@ use Rattle.lists.specs.Lists.{at}
 use Rattle.lists.specs.Below.{allBelow, sumBelow, joinBelow, mapBelow, listBelow}
 use Rattle.table_spec.specs.Limits.{maxLines, maxEntries, maxBytes}
 use Rattle.table_spec.specs.Layout.{rowAt, laid, needs, starts, neighbourNumbers, row, need, lines, tableOf}
-use Rattle.table_spec.specs.Holds.{within, complete, needsInRange, neverFall, shortRows, validEntry, validRow, validRows, soundRows, mirrored, twoWay, canBeMet, holds}
+use Rattle.table_spec.specs.Holds.{within, complete, inRange, needsInRange, neverFall, shortRows, validEntry, validRow, validRows, soundRows, mirrored, twoWay, canBeMet, holds}
 use Rattle.table_spec.specs.Lines.{pairs, lowerEnd, upperEnd}
 use Rattle.table_spec.specs.TableOutcomes.{degreeOutcome, rowOutcome, rowBefore, rowPlaceOutcome}
 
@@ -40,7 +40,7 @@ unfolding path
 networks = (1 ∷ 1 ∷ 0 ∷ 0 ∷ []) ∷ path 1 ∷ (path 1 ++ 9 ∷ 9 ∷ []) ∷ path 2 ∷ []
 
 networks-hold : map holds networks ≡ true ∷ true ∷ true ∷ true ∷ []
-unfolding networks holds twoWay complete within needsInRange soundRows neverFall shortRows validRows validRow validEntry mirrored rowAt needs starts neighbourNumbers row at allBelow
+unfolding networks holds twoWay complete within inRange soundRows neverFall shortRows validRows validRow validEntry mirrored rowAt needs starts neighbourNumbers row at allBelow
 networks-hold = refl
 
 -- Path with bus 2's row naming bus 0, which does not name bus 2
@@ -76,12 +76,12 @@ others =
 
 others-do-not :
     map holds others ≡ false ∷ false ∷ false ∷ false ∷ false ∷ false ∷ false ∷ false ∷ false ∷ false ∷ false ∷ false ∷ false ∷ false ∷ false ∷ false ∷ []
-unfolding others path holds twoWay complete within needsInRange soundRows neverFall shortRows validRows validRow validEntry mirrored rowAt needs starts neighbourNumbers row at allBelow
+unfolding others path holds twoWay complete within inRange soundRows neverFall shortRows validRows validRow validEntry mirrored rowAt needs starts neighbourNumbers row at allBelow
 others-do-not = refl
 
 -- needs up to 24 are in range, whatever the degrees
 needs-in-range : map needsInRange ((1 ∷ 24 ∷ []) ∷ (24 ∷ 25 ∷ []) ∷ (0 ∷ 1 ∷ []) ∷ []) ≡ true ∷ false ∷ false ∷ []
-unfolding needsInRange within at allBelow
+unfolding inRange within at allBelow
 needs-in-range = refl
 
 -- needs 1, 2 and 3 without lines, and at a bus of degree 2
@@ -93,7 +93,7 @@ unfoldable pub star : ℕ → List ℕ
 star n = suc n ∷ replicate (suc n) 1 ++ (0 ∷ mapBelow (suc n) (λ i. n + i)) ++ mapBelow n suc ++ replicate n 0
 
 stars : (holds (star 23) ≡ true) × (holds (star 24) ≡ false)
-unfolding star mapBelow joinBelow holds twoWay complete within needsInRange soundRows neverFall shortRows validRows validRow validEntry mirrored rowAt needs starts neighbourNumbers row at allBelow
+unfolding star mapBelow joinBelow holds twoWay complete within inRange soundRows neverFall shortRows validRows validRow validEntry mirrored rowAt needs starts neighbourNumbers row at allBelow
 stars = (refl, refl)
 
 -- needs 1, 2 and 24 of three buses without lines
@@ -102,7 +102,7 @@ unfolding mapBelow joinBelow needs at
 three-needs = refl
 
 path-lines : lines (path 1) ≡ 2
-unfolding path lines sumBelow holds twoWay complete within needsInRange soundRows neverFall shortRows validRows validRow validEntry mirrored rowAt needs starts neighbourNumbers row at allBelow
+unfolding path lines sumBelow holds twoWay complete within inRange soundRows neverFall shortRows validRows validRow validEntry mirrored rowAt needs starts neighbourNumbers row at allBelow
 path-lines = refl
 
 -- four buses with needs 1, 3, 1 and 2, and the lines 0 - 1, 0 - 3, 1 - 2, 1 - 3 and 2 - 3
@@ -117,27 +117,27 @@ in-order = (refl, refl)
 path-answers :
     (map (degreeOutcome (path 1)) (0 ∷ 1 ∷ 2 ∷ 3 ∷ []) ≡ gives 1 ∷ gives 2 ∷ gives 1 ∷ refuses 13 ∷ [])
     × (map (rowOutcome (path 1)) (0 ∷ 1 ∷ 2 ∷ 3 ∷ []) ≡ (1 ∷ []) ∷ (0 ∷ 2 ∷ []) ∷ (1 ∷ []) ∷ [] ∷ [])
-unfolding path holds twoWay complete within needsInRange soundRows neverFall shortRows validRows validRow validEntry mirrored rowAt needs starts neighbourNumbers row at allBelow
+unfolding path holds twoWay complete within inRange soundRows neverFall shortRows validRows validRow validEntry mirrored rowAt needs starts neighbourNumbers row at allBelow
 path-answers = (refl, refl)
 
 -- the rows of Path begin at entries 8, 9 and 11
 path-places : map (rowPlaceOutcome (path 1)) (0 ∷ 1 ∷ 2 ∷ 3 ∷ []) ≡ gives (8, 1) ∷ gives (9, 2) ∷ gives (11, 1) ∷ refuses 13 ∷ []
-unfolding path holds twoWay complete within needsInRange soundRows neverFall shortRows validRows validRow validEntry mirrored rowAt needs starts neighbourNumbers row at allBelow
+unfolding path holds twoWay complete within inRange soundRows neverFall shortRows validRows validRow validEntry mirrored rowAt needs starts neighbourNumbers row at allBelow
 path-places = refl
 
 -- so many entries stand before the part that Row gives, though rows 0 and 2 hold the same
 path-before : map (rowBefore (path 1)) (0 ∷ 1 ∷ 2 ∷ 3 ∷ []) ≡ 8 ∷ 9 ∷ 11 ∷ 0 ∷ []
-unfolding path holds twoWay complete within needsInRange soundRows neverFall shortRows validRows validRow validEntry mirrored rowAt needs starts neighbourNumbers row at allBelow
+unfolding path holds twoWay complete within inRange soundRows neverFall shortRows validRows validRow validEntry mirrored rowAt needs starts neighbourNumbers row at allBelow
 path-before = refl
 
 -- a longer tail
 same-answers : (degreeOutcome (path 1 ++ 9 ∷ 9 ∷ []) 1 ≡ gives 2) × (rowOutcome (path 1 ++ 9 ∷ 9 ∷ []) 1 ≡ 0 ∷ 2 ∷ [])
-unfolding path holds twoWay complete within needsInRange soundRows neverFall shortRows validRows validRow validEntry mirrored rowAt needs starts neighbourNumbers row at allBelow
+unfolding path holds twoWay complete within inRange soundRows neverFall shortRows validRows validRow validEntry mirrored rowAt needs starts neighbourNumbers row at allBelow
 same-answers = (refl, refl)
 
 -- an empty slice, and a table with a mirror missing: 11, before any word on the bus
 no-answers :
     (map (degreeOutcome []) (0 ∷ 7 ∷ []) ≡ refuses 11 ∷ refuses 11 ∷ []) × (map (rowOutcome []) (0 ∷ 7 ∷ []) ≡ [] ∷ [] ∷ [])
     × (map (degreeOutcome one-sided) (0 ∷ 7 ∷ []) ≡ refuses 11 ∷ refuses 11 ∷ []) × (map (rowOutcome one-sided) (0 ∷ 7 ∷ []) ≡ [] ∷ [] ∷ [])
-unfolding one-sided holds twoWay complete within needsInRange soundRows neverFall shortRows validRows validRow validEntry mirrored rowAt needs starts neighbourNumbers row at allBelow
+unfolding one-sided holds twoWay complete within inRange soundRows neverFall shortRows validRows validRow validEntry mirrored rowAt needs starts neighbourNumbers row at allBelow
 no-answers = (refl, refl, refl, refl)

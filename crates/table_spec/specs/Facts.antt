@@ -14,7 +14,7 @@ use Rattle.lists.specs.Loops.{allBelow-at, allBelow-by, allBelow-same}
 use Rattle.table_spec.specs.Limits.{maxBuses, maxDegree, maxNeed}
 use Rattle.table_spec.specs.Layout.{rowAt, rowSize, busCount, needs, starts, entries, neighbourNumbers, startsAt, row}
 use Rattle.table_spec.specs.Rows.{row-length, last-read, length-needs, room}
-use Rattle.table_spec.specs.Holds.{within, agree, complete, needsInRange, neverFall, shortRows, validEntry, validRow, validRows, soundRows, mirrored, twoWay, canBeMet, needsCanBeMet, holds, Complete, NeedsInRange, Steps, ValidRow, SoundRows, Mirrored, Holds}
+use Rattle.table_spec.specs.Holds.{within, agree, complete, inRange, needsInRange, neverFall, shortRows, validEntry, validRow, validRows, soundRows, mirrored, twoWay, canBeMet, needsCanBeMet, holds, Complete, InRange, NeedsInRange, Steps, ValidRow, SoundRows, Mirrored, Holds}
 
 pub within-test : (a b x : ℕ) → a ≤ x → x ≤ b → within a b x ≡ true
 unfolding within
@@ -58,18 +58,19 @@ module _ (from : ℕ) (t : List ℕ) where
       let q : from + n + 1 + x ≡ entries from t = omega (arith, last-read from t e p) in
       rw (w, q)
 
--- ---- the needs
+-- ---- numbers in a range
 
-module _ (q : List ℕ) where
-  pub needs-facts : needsInRange q ≡ true → NeedsInRange q
-  unfolding needsInRange
-  needs-facts w i b = within-facts 1 maxNeed (at q i) (allBelow-at _ (length q) w b)
+module _ (most : ℕ) (l : List ℕ) where
+  pub range-facts : inRange most l ≡ true → InRange most l
+  unfolding inRange
+  range-facts w i b = within-facts 1 most (at l i) (allBelow-at _ (length l) w b)
 
-  pub needs-test : NeedsInRange q → needsInRange q ≡ true
-  unfolding needsInRange
-  needs-test f = allBelow-by _ (length q) (λ i b. within-test 1 maxNeed (at q i) (f i b .0) (f i b .1))
+  pub range-test : InRange most l → inRange most l ≡ true
+  unfolding inRange
+  range-test f = allBelow-by _ (length l) (λ i b. within-test 1 most (at l i) (f i b .0) (f i b .1))
 
--- and whether they can be met, by the same degrees found otherwise
+-- ---- whether needs can be met, by the same degrees found otherwise
+
 pub met-same : (n : ℕ) (q : List ℕ) {f g : ℕ → ℕ} → ((i : ℕ) → i < n → f i ≡ g i) → needsCanBeMet n q f ≡ needsCanBeMet n q g
 met-same n q h = allBelow-same _ _ n (λ i b. ap (canBeMet (at q i)) (h i b))
 
@@ -192,7 +193,7 @@ module _ (t : List ℕ) where
       let w2 = and-left (complete from t && needsInRange (needs t) && twoWay from t) _ w in
       let w1 = and-left (complete from t && needsInRange (needs t)) _ w2 in
       let c = complete-facts from t (and-left (complete from t) _ w1) in
-      let f = needs-facts (needs t) (and-right (complete from t) _ w1) in
+      let f = range-facts maxNeed (needs t) (and-right (complete from t) _ w1) in
       let r = two-way-facts from t c (and-right (complete from t && needsInRange (needs t)) _ w2) in
       let long = length-needs t c in
       record {
@@ -205,7 +206,7 @@ module _ (t : List ℕ) where
   pub holds-test : Holds t → holds t ≡ true
   unfolding holds
   holds-test w =
-      rw (complete-test _ t (w .shape .complete), needs-test (needs t) (holds-needs w), two-way-test _ t (w .shape .rows) (w .mirrored))
+      rw (complete-test _ t (w .shape .complete), range-test maxNeed (needs t) (holds-needs w), two-way-test _ t (w .shape .rows) (w .mirrored))
       (allBelow-by _ (busCount t) (w .met))
 
   -- as code tests it: row starts, which begin at `from`, were read into s, needs into q, and the tests of entries and rows were passed

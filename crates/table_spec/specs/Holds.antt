@@ -27,9 +27,13 @@ agree false b = not b
 unfoldable pub complete : ℕ → List ℕ → Bool
 complete from t = within 1 maxBuses (busCount t) && leb (entries from t) (length t)
 
--- needs are from 1 to the highest
-unfoldable pub needsInRange : List ℕ → Bool
-needsInRange q = allBelow (length q) (λ i. within 1 maxNeed (at q i))
+-- all numbers of a list are from 1 to the highest
+unfoldable pub inRange : ℕ → List ℕ → Bool
+inRange most l = allBelow (length l) (λ i. within 1 most (at l i))
+
+-- so are needs
+abbrev pub needsInRange : List ℕ → Bool
+needsInRange q = inRange maxNeed q
 
 -- starts never fall
 unfoldable pub neverFall : ℕ → List ℕ → Bool
@@ -81,8 +85,11 @@ pub record Complete (from : ℕ) (t : List ℕ) : Type 0 where
   pub most : busCount t ≤ maxBuses
   pub whole : entries from t ≤ length t
 
+abbrev pub InRange : ℕ → List ℕ → Type 0
+InRange most l = (i : ℕ) → i < length l → (1 ≤ at l i) × (at l i ≤ most)
+
 abbrev pub NeedsInRange : List ℕ → Type 0
-NeedsInRange q = (i : ℕ) → i < length q → (1 ≤ at q i) × (at q i ≤ maxNeed)
+NeedsInRange q = InRange maxNeed q
 
 -- each row ends no earlier than it starts, and is short
 abbrev pub Steps : ℕ → List ℕ → Type 0

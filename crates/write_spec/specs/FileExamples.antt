@@ -7,7 +7,7 @@ use Rattle.lists.specs.Lists.{at, put}
 use Rattle.lists.specs.Below.{allBelow, sumBelow, joinBelow}
 use Rattle.refusals.specs.Outcomes.{gives, refuses}
 use Rattle.table_spec.specs.Layout.{rowAt, needs, starts, neighbourNumbers, row, lines}
-use Rattle.table_spec.specs.Holds.{within, complete, needsInRange, neverFall, shortRows, validEntry, validRow, validRows, soundRows, mirrored, twoWay, holds}
+use Rattle.table_spec.specs.Holds.{within, complete, inRange, neverFall, shortRows, validEntry, validRow, validRows, soundRows, mirrored, twoWay, holds}
 use Rattle.table_spec.specs.Examples.{path}
 use Rattle.write_spec.specs.FileOf.{word, recordOf, pairRecords, fileOf}
 use Rattle.write_spec.specs.WriteOutcome.{writeOutcome, bytesAfter}
@@ -34,10 +34,10 @@ high-buses = refl
 answers :
     (map (writeOutcome (path 1)) (14 ∷ 15 ∷ 17 ∷ []) ≡ refuses 16 ∷ gives 15 ∷ gives 15 ∷ [])
     × (writeOutcome (path 0) 0 ≡ refuses 11)
-unfolding path fileOf pairRecords recordOf word lines holds twoWay complete within needsInRange soundRows neverFall shortRows validRows validRow validEntry mirrored rowAt needs starts neighbourNumbers row at allBelow joinBelow sumBelow
+unfolding path fileOf pairRecords recordOf word lines holds twoWay complete within inRange soundRows neverFall shortRows validRows validRow validEntry mirrored rowAt needs starts neighbourNumbers row at allBelow joinBelow sumBelow
 answers = (refl, refl)
 
 -- what lent bytes hold afterwards: the file and the old rest; too few, what they held
 left : map (λ k. bytesAfter (path 1) (replicate k 7)) (14 ∷ 17 ∷ []) ≡ replicate 14 7 ∷ (fileOf (path 1) ++ (7 ∷ 7 ∷ [])) ∷ []
-unfolding path fileOf pairRecords recordOf word lines holds twoWay complete within needsInRange soundRows neverFall shortRows validRows validRow validEntry mirrored rowAt needs starts neighbourNumbers row at allBelow joinBelow sumBelow put
+unfolding path fileOf pairRecords recordOf word lines holds twoWay complete within inRange soundRows neverFall shortRows validRows validRow validEntry mirrored rowAt needs starts neighbourNumbers row at allBelow joinBelow sumBelow put
 left = refl

@@ -17,10 +17,11 @@ use Rattle.lists.specs.JoinBelow.{joinBelow-same}
 use Rattle.lists.specs.ListBelow.{listBelow-same, listBelow-members}
 use Rattle.lists.specs.Writes.{put-front, written-front}
 use Rattle.refusals.specs.Outcomes.{gives}
+use Rattle.table_spec.specs.Limits.{maxNeed}
 use Rattle.table_spec.specs.Layout.{busCount, needs, entries, startsAt, row, lines, tableEntries, tableOf}
 use Rattle.table_spec.specs.Holds.{Holds}
 use Rattle.table_spec.specs.Rows.{valid-below, valid-others, length-needs, row-valid, degree-le}
-use Rattle.table_spec.specs.Facts.{needs-test, holds-facts, holds-needs}
+use Rattle.table_spec.specs.Facts.{range-test, holds-facts, holds-needs}
 use Rattle.table_spec.specs.Lines.{lowerBus, upperBus}
 use Rattle.table_spec.specs.LineCount.{length-rows, lines-le, entries-all}
 use Rattle.table_spec.specs.LinePairs.{pairs-in, in-pairs, pairs-ascend, mirror, neighbour-below, length-pairs}
@@ -159,7 +160,7 @@ module _ (t : List ℕ) (w : Holds t) where
           positive = omega (arith, same-buses, w .shape .complete .least);
           buses = omega (arith, same-buses, w .shape .complete .most);
           complete = omega (arith, same-buses, length-fileOf t w);
-          needs = rw same-needs (needs-test (needs t) (holds-needs t w));
+          needs = rw same-needs (range-test maxNeed (needs t) (holds-needs t w));
         };
         lines = omega (arith, same-lines, lines-le t w);
         size = omega (arith, same-buses, same-lines, length-fileOf t w);

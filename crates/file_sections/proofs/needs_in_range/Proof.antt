@@ -10,7 +10,7 @@ use Rattle.lists.specs.Below.{allBelow}
 use Rattle.lists.specs.Tests.{passed, failed}
 use Rattle.lists.specs.Loops.{allBelow-start, allBelow-more, allBelow-fails, allBelow-done}
 use Rattle.table_spec.specs.Limits.{maxNeed}
-use Rattle.table_spec.specs.Holds.{within, needsInRange}
+use Rattle.table_spec.specs.Holds.{within, inRange}
 use Rattle.file_sections.proofs.needs_in_range.Statement.{statement}
 use Rattle.file_sections.proofs.needs_in_range.Tie as tie
 
@@ -27,7 +27,7 @@ cast-within : tie.Need-cast-within Inv-loop μ-loop
 cast-within c = omega (arith, c .shared-slice-known2 .given (c .before .before .loop .bus))
 
 returns : tie.Need-returns Inv-loop μ-loop
-unfolding needsInRange at
+unfolding inRange at
 returns c = sym (allBelow-fails _ _ _ (c .before .before .before .loop-test .taken) (failed (c .before .within .ensures) (c .if1 .taken)))
 
 loop-again : tie.Need-loop-again Inv-loop μ-loop
@@ -35,7 +35,7 @@ unfolding at
 loop-again c = (search needs, allBelow-more _ _ (c .before .before .before .before .loop .inv .1) (passed (c .before .within .ensures) (c .if1 .left)))
 
 returns-2 : tie.Need-returns-2 Inv-loop μ-loop
-unfolding needsInRange
+unfolding inRange
 returns-2 c = sym (allBelow-done _ _ _ (c .before .loop .inv .1) (c .before .loop .inv .0) (c .loop-test .left))
 
 pub needs-in-range-spec : {M : Type 1} → statement M

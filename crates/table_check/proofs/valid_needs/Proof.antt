@@ -11,7 +11,7 @@ use Rattle.lists.specs.Tests.{fails, passed, failed, never-both, and-fails-left
 use Rattle.lists.specs.Loops.{allBelow-start, allBelow-more, allBelow-fails, allBelow-done}
 use Rattle.table_spec.specs.Limits.{maxNeed}
 use Rattle.table_spec.specs.Layout.{rowSize}
-use Rattle.table_spec.specs.Holds.{within, needsInRange, canBeMet, needsCanBeMet}
+use Rattle.table_spec.specs.Holds.{within, inRange, needsInRange, canBeMet, needsCanBeMet}
 use Rattle.table_check.proofs.valid_needs.Statement.{statement}
 use Rattle.table_check.proofs.valid_needs.Tie as tie
 
@@ -29,7 +29,7 @@ in-range : (c : tie.After-within Inv-loop μ-loop) → c .within .result ≡ wit
 in-range c = c .within .ensures ∙ ap (within 1 maxNeed) (c .before .entry .ensures .0)
 
 returns : tie.Need-returns Inv-loop μ-loop
-unfolding needsInRange
+unfolding inRange
 returns c = sym (and-fails-left _ _ (allBelow-fails _ _ _ (c .before .before .before .loop-test .taken) (failed (in-range (c .before)) (c .if1 .taken))))
 
 sub-degree : tie.Need-sub-degree Inv-loop μ-loop
@@ -53,7 +53,7 @@ loop-again c =
     (search needs, allBelow-more _ _ (inv .1) (passed (in-range (o .before)) (o .if1 .left)), allBelow-more _ _ (inv .2) (passed (met (c .before)) (c .if2 .left)))
 
 returns-3 : tie.Need-returns-3 Inv-loop μ-loop
-unfolding needsInRange
+unfolding inRange
 returns-3 c =
     let inv = c .before .loop .inv in
     sym (and-both _ _ (allBelow-done _ _ _ (inv .1) (inv .0) (c .loop-test .left)) (allBelow-done _ _ _ (inv .2) (inv .0) (c .loop-test .left)))
