@@ -1,6 +1,6 @@
 // Networks: their limits, and what a line table has where. A network is a line table in a lent slice.
 ghost use mathlib.Core.Path.{_≡_};
-ghost use Rattle.table_spec.specs.Limits.{maxBuses, maxDegree, maxNeed, maxLines, maxEntries, maxBytes};
+ghost use Rattle.table_spec.specs.Limits.{maxBuses, maxDegree, maxNeed, maxWeight, maxLines, maxEntries, maxBytes};
 ghost use Rattle.table_spec.specs.Holds.{within, canBeMet};
 
 pub mod rows;
@@ -39,6 +39,7 @@ pub struct Limits {
     pub buses: usize,
     pub degree: usize,
     pub need: usize,
+    pub weight: usize,
     pub lines: usize,
     pub entries: usize,
     pub bytes: usize,
@@ -56,23 +57,27 @@ impl Network {
     // The highest need.
     pub const NEED: usize = 24;
 
+    // The highest weight.
+    pub const WEIGHT: usize = 1000;
+
     // Lines of a network: each stands at two buses.
     pub const LINES: usize = Network::BUSES * Network::LINES_AT_BUS / 2;
 
     // Entries of a line table.
-    pub const ENTRIES: usize = 1 + Network::BUSES + (Network::BUSES + 1) + 2 * Network::LINES;
+    pub const ENTRIES: usize = 1 + 2 * Network::BUSES + (Network::BUSES + 1) + 2 * Network::LINES;
 
     // Bytes of a network file.
-    pub const BYTES: usize = 2 + Network::BUSES + 2 + 4 * Network::LINES;
+    pub const BYTES: usize = 2 + Network::BUSES + 2 + 4 * Network::LINES + 2 + 2 * Network::BUSES;
 
     pub fn limits() -> Limits
-        ensures { λ r. ⌜ (r .buses ≡ maxBuses) × (r .degree ≡ maxDegree) × (r .need ≡ maxNeed) ⌝ }
+        ensures { λ r. ⌜ (r .buses ≡ maxBuses) × (r .degree ≡ maxDegree) × (r .need ≡ maxNeed) × (r .weight ≡ maxWeight) ⌝ }
         ensures { λ r. ⌜ (r .lines ≡ maxLines) × (r .entries ≡ maxEntries) × (r .bytes ≡ maxBytes) ⌝ }
     {
         Limits {
             buses: Network::BUSES,
             degree: Network::LINES_AT_BUS,
             need: Network::NEED,
+            weight: Network::WEIGHT,
             lines: Network::LINES,
             entries: Network::ENTRIES,
             bytes: Network::BYTES,

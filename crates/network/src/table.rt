@@ -1,9 +1,9 @@
 // Line tables in lent slices: where a table has what. Row starts begin at `from`.
 ghost use mathlib.Core.Path.{_≡_};
-ghost use Prim.Native.Nat.{_+_, _≤_, _<_};
+ghost use Prim.Native.Nat.{_+_, _*_, _≤_, _<_};
 ghost use lib.ListN.{length};
-ghost use Rattle.table_spec.specs.Limits.{maxBuses, maxLines};
-ghost use Rattle.table_spec.specs.Layout.{busCount, needs, need, starts, neighbourNumbers, startsAt, row, rowStart, lines, tableEntries};
+ghost use Rattle.table_spec.specs.Limits.{maxBuses, maxWeight, maxLines};
+ghost use Rattle.table_spec.specs.Layout.{busCount, needs, weights, need, weight, starts, neighbourNumbers, startsAt, row, rowStart, lines, tableEntries};
 ghost use Rattle.table_spec.specs.Holds.{Complete, Scorable, Holds};
 use super::rows::entry;
 use super::rows::row_at;
@@ -25,12 +25,21 @@ pub fn needs(table: &[u16]) -> &[u16]
     &table[1..1 + n]
 }
 
+// The weights.
+pub fn weights(table: &[u16]) -> &[u16]
+    requires { ⌜ 1 + 2 * busCount (now table) ≤ length (now table) ⌝ }
+    ensures { λ r. ⌜ now r ≡ weights (now (table .entry)) ⌝ }
+{
+    let n = bus_count(table);
+    &table[1 + n..1 + 2 * n]
+}
+
 // Where a network's row starts begin.
 pub fn starts_at(table: &[u16]) -> usize
     requires { ⌜ 1 ≤ length (now table) ⌝ }
-    ensures { λ r. ⌜ (r ≡ startsAt (now (table .entry))) × (r ≤ 65536) ⌝ }
+    ensures { λ r. ⌜ (r ≡ startsAt (now (table .entry))) × (r ≤ 131072) ⌝ }
 {
-    1 + bus_count(table)
+    1 + 2 * bus_count(table)
 }
 
 // The row starts.
@@ -70,6 +79,14 @@ pub fn need(table: &[u16], bus: usize) -> usize
     entry(needs(table), bus)
 }
 
+// The weight of a bus.
+pub fn weight(table: &[u16], bus: usize) -> u64
+    requires { ⌜ Scorable (now table) × (bus < busCount (now table)) ⌝ }
+    ensures { λ r. ⌜ (r ≡ weight (now (table .entry)) bus) × (r ≤ maxWeight) ⌝ }
+{
+    entry(weights(table), bus) as u64
+}
+
 // Where the neighbours of a bus begin in the table.
 pub fn row_start(table: &[u16], bus: usize) -> usize
     requires { ⌜ Scorable (now table) × (bus < busCount (now table)) ⌝ }
@@ -84,7 +101,7 @@ pub fn entries(n: usize, m: usize) -> usize
     requires { ⌜ (n ≤ maxBuses) × (m ≤ maxLines) ⌝ }
     ensures { λ r. ⌜ r ≡ tableEntries n m ⌝ }
 {
-    2 * n + 2 + 2 * m
+    3 * n + 2 + 2 * m
 }
 
 // How many lines: half as many as neighbour numbers.

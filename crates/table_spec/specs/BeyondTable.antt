@@ -1,14 +1,14 @@
 -- Entries beyond the table never matter: slices that begin with the same table are judged alike and give the same answers.
 use mathlib.Core.List.{List, _++_}
 use mathlib.Core.Path.{_≡_, refl, sym, ap, _∙_}
-use Prim.Native.Nat.{ℕ, _+_, _≤_}
+use Prim.Native.Nat.{ℕ, _+_, _*_, _≤_}
 use native.Mathlib.Omega.{arith}
 use borrow.Author.Tests.{le-leb}
 use lib.ListN.{length, length-append}
 use Rattle.lists.specs.Lists.{at}
 use Rattle.lists.specs.Places.{at-append, part-append}
-use Rattle.table_spec.specs.Layout.{busCount, needs, starts, last, entries, neighbourNumbers, startsAt, row}
-use Rattle.table_spec.specs.Rows.{needs-read, starts-read}
+use Rattle.table_spec.specs.Layout.{busCount, needs, weights, starts, last, entries, neighbourNumbers, startsAt, row}
+use Rattle.table_spec.specs.Rows.{needs-read, weights-read, starts-read}
 use Rattle.table_spec.specs.Holds.{complete, twoWay, holds}
 use Rattle.table_spec.specs.TableOutcomes.{SameNetwork}
 
@@ -41,9 +41,13 @@ module _ (t x : List ℕ) (w : entries (startsAt t) t ≤ length t) where
   needs-on : needs (t ++ x) ≡ needs t
   needs-on = sym (needs-read (t ++ x) (sym (busCount-on (startsAt t) t x w))) ∙ part-append 1 (1 + busCount t) t x (omega arith) ∙ needs-read t refl
 
+  weights-on : weights (t ++ x) ≡ weights t
+  weights-on =
+      sym (weights-read (t ++ x) (sym (busCount-on (startsAt t) t x w))) ∙ part-append (1 + busCount t) (1 + 2 * busCount t) t x (omega arith) ∙ weights-read t refl
+
   holds-on : holds (t ++ x) ≡ holds t
   unfolding holds row
-  holds-on = rw (busCount-on (startsAt t) t x w, complete-on (startsAt t) t x w, needs-on, two-way-on (startsAt t) t x w, starts-on (startsAt t) t x w, numbers-on (startsAt t) t x w)
+  holds-on = rw (busCount-on (startsAt t) t x w, complete-on (startsAt t) t x w, needs-on, weights-on, two-way-on (startsAt t) t x w, starts-on (startsAt t) t x w, numbers-on (startsAt t) t x w)
 
   row-on : (i : ℕ) → row (t ++ x) i ≡ row t i
   unfolding row
@@ -54,6 +58,7 @@ module _ (t x : List ℕ) (w : entries (startsAt t) t ≤ length t) where
     judged = holds-on;
     sizes = busCount-on (startsAt t) t x w;
     needed = needs-on;
+    weighed = weights-on;
     rows = row-on;
     degreeAnswers = λ bus. rw (holds-on, busCount-on (startsAt t) t x w, row-on bus);
     rowAnswers = λ bus. simp (holds-on, busCount-on (startsAt t) t x w, row-on bus);
@@ -70,6 +75,7 @@ beyond t x y w =
       judged = a .judged ∙ sym (b .judged);
       sizes = a .sizes ∙ sym (b .sizes);
       needed = a .needed ∙ sym (b .needed);
+      weighed = a .weighed ∙ sym (b .weighed);
       rows = λ i. a .rows i ∙ sym (b .rows i);
       degreeAnswers = λ bus. a .degreeAnswers bus ∙ sym (b .degreeAnswers bus);
       rowAnswers = λ bus. a .rowAnswers bus ∙ sym (b .rowAnswers bus);

@@ -11,10 +11,10 @@ use Rattle.lists.specs.Lists.{has, at}
 use Rattle.lists.specs.Below.{allBelow}
 use Rattle.lists.specs.Tests.{and-both, and-left, and-right, and-fails-left}
 use Rattle.lists.specs.Loops.{allBelow-at, allBelow-by, allBelow-same}
-use Rattle.table_spec.specs.Limits.{maxBuses, maxDegree, maxNeed}
-use Rattle.table_spec.specs.Layout.{rowAt, rowSize, busCount, needs, starts, entries, neighbourNumbers, startsAt, row}
-use Rattle.table_spec.specs.Rows.{row-length, last-read, length-needs, room}
-use Rattle.table_spec.specs.Holds.{within, agree, complete, inRange, needsInRange, neverFall, shortRows, validEntry, validRow, validRows, soundRows, mirrored, twoWay, canBeMet, needsCanBeMet, holds, Complete, InRange, NeedsInRange, Steps, ValidRow, SoundRows, Mirrored, Holds}
+use Rattle.table_spec.specs.Limits.{maxBuses, maxDegree, maxNeed, maxWeight}
+use Rattle.table_spec.specs.Layout.{rowAt, rowSize, busCount, needs, weights, starts, entries, neighbourNumbers, startsAt, row}
+use Rattle.table_spec.specs.Rows.{row-length, last-read, length-needs, length-weights, room}
+use Rattle.table_spec.specs.Holds.{within, agree, complete, inRange, needsInRange, weightsInRange, neverFall, shortRows, validEntry, validRow, validRows, soundRows, mirrored, twoWay, canBeMet, needsCanBeMet, holds, Complete, InRange, NeedsInRange, WeightsInRange, Steps, ValidRow, SoundRows, Mirrored, Holds}
 
 pub within-test : (a b x : ℕ) → a ≤ x → x ≤ b → within a b x ≡ true
 unfolding within
@@ -182,35 +182,47 @@ module _ (from : ℕ) (t : List ℕ) where
 -- ---- a network
 
 module _ (t : List ℕ) where
-  -- the needs, between their limits
+  -- the needs, and the weights, between their limits
   pub holds-needs : Holds t → NeedsInRange (needs t)
   holds-needs w i b = let l : i < busCount t = omega (arith, length-needs t (w .shape .complete)) in (w .shape .needed i l, w .limited i l)
+
+  pub holds-weights : Holds t → WeightsInRange (weights t)
+  holds-weights w i b = let l : i < busCount t = omega (arith, length-weights t (w .shape .complete)) in (w .weighty i l, w .shape .weighed i l)
 
   pub holds-facts : holds t ≡ true → Holds t
   unfolding holds
   holds-facts w =
       let from = startsAt t in
-      let w2 = and-left (complete from t && needsInRange (needs t) && twoWay from t) _ w in
+      let w3 = and-left (complete from t && needsInRange (needs t) && weightsInRange (weights t) && twoWay from t) _ w in
+      let w2 = and-left (complete from t && needsInRange (needs t) && weightsInRange (weights t)) _ w3 in
       let w1 = and-left (complete from t && needsInRange (needs t)) _ w2 in
       let c = complete-facts from t (and-left (complete from t) _ w1) in
       let f = range-facts maxNeed (needs t) (and-right (complete from t) _ w1) in
-      let r = two-way-facts from t c (and-right (complete from t && needsInRange (needs t)) _ w2) in
-      let long = length-needs t c in
+      let g = range-facts maxWeight (weights t) (and-right (complete from t && needsInRange (needs t)) _ w2) in
+      let r = two-way-facts from t c (and-right (complete from t && needsInRange (needs t) && weightsInRange (weights t)) _ w3) in
+      let many = length-needs t c in
+      let long = length-weights t c in
       record {
-        shape = record { complete = c; needed = λ i b. f i (omega arith) .0; rows = r .0 };
+        shape = record { complete = c; needed = λ i b. f i (omega arith) .0; weighed = λ i b. g i (omega arith) .1; rows = r .0 };
         mirrored = r .1;
+        weighty = λ i b. g i (omega arith) .0;
         limited = λ i b. f i (omega arith) .1;
-        met = λ i b. allBelow-at _ (busCount t) (and-right (complete from t && needsInRange (needs t) && twoWay from t) _ w) b;
+        met = λ i b. allBelow-at _ (busCount t) (and-right (complete from t && needsInRange (needs t) && weightsInRange (weights t) && twoWay from t) _ w) b;
       }
 
   pub holds-test : Holds t → holds t ≡ true
   unfolding holds
   holds-test w =
-      rw (complete-test _ t (w .shape .complete), range-test maxNeed (needs t) (holds-needs w), two-way-test _ t (w .shape .rows) (w .mirrored))
+      rw (
+        complete-test _ t (w .shape .complete),
+        range-test maxNeed (needs t) (holds-needs w),
+        range-test maxWeight (weights t) (holds-weights w),
+        two-way-test _ t (w .shape .rows) (w .mirrored),
+      )
       (allBelow-by _ (busCount t) (w .met))
 
-  -- as code tests it: row starts, which begin at `from`, were read into s, needs into q, and the tests of entries and rows were passed
-  module _ {from : ℕ} {s q : List ℕ} (eh : from ≡ startsAt t) (es : s ≡ starts from t) (eq : q ≡ needs t) (c : complete from t ≡ true) (r : twoWay from t ≡ true) where
+  -- as code tests it: row starts, which begin at `from`, were read into s, needs into q and weights into v, and the tests of entries and rows were passed
+  module _ {from : ℕ} {s q v : List ℕ} (eh : from ≡ startsAt t) (es : s ≡ starts from t) (eq : q ≡ needs t) (ev : v ≡ weights t) (c : complete from t ≡ true) (r : twoWay from t ≡ true) where
     whole : Complete (startsAt t) t
     whole = rw eh at (complete-facts from t c)
 
@@ -220,12 +232,14 @@ module _ (t : List ℕ) where
     counted : length q ≡ busCount t
     counted = rw eq (length-needs t whole)
 
-    pub steps-read : (length q < length s) × Steps (length q) s
-    steps-read = rw (counted, es, eh) (sound .spans .long, sound .spans .steps)
+    pub steps-read : (length q ≡ length v) × (length q < length s) × Steps (length q) s
+    steps-read =
+        (counted ∙ sym (ap length ev ∙ length-weights t whole), rw (counted, es, eh) (sound .spans .long), rw (counted, es, eh) (sound .spans .steps))
 
-    -- b is the test of the needs
-    pub holds-read : {b : Bool} → b ≡ (needsInRange q && needsCanBeMet (length q) q (rowSize s)) → b ≡ holds t
+    -- b is the test of needs and weights
+    pub holds-read : {b : Bool} → b ≡ (needsInRange q && weightsInRange v && needsCanBeMet (length q) q (rowSize s)) → b ≡ holds t
     unfolding holds row
     holds-read m =
-        rw (rw eh at c, rw eh at r, and-true (needsInRange (needs t)))
-        (rw (counted, eq, es, eh) at m ∙ ap (λ x. needsInRange (needs t) && x) (met-same (busCount t) (needs t) (λ i b. sym (row-length _ _ _ (sound .spans) i b))))
+        rw (rw eh at c, rw eh at r, and-true (needsInRange (needs t) && weightsInRange (weights t)))
+        (rw (counted, eq, ev, es, eh) at m
+        ∙ ap (λ x. needsInRange (needs t) && weightsInRange (weights t) && x) (met-same (busCount t) (needs t) (λ i b. sym (row-length _ _ _ (sound .spans) i b))))

@@ -1,4 +1,4 @@
--- What makes a slice hold a network: the scope's paragraph, clause by clause, and order 5's clause, as tests that compute and as facts. `Facts` shows
+-- What makes a slice hold a network: the scope's paragraph, clause by clause, and the clauses of orders 5 and 7, as tests that compute and as facts. `Facts` shows
 -- them equivalent.
 -- Definitions only.
 use mathlib.Core.Bool.{Bool, true, false, not, _&&_, _||_}
@@ -9,8 +9,8 @@ use lib.Dec.{leb, ltb, eqb}
 use lib.ListN.{length}
 use Rattle.lists.specs.Lists.{has, at, Ascending}
 use Rattle.lists.specs.Below.{allBelow}
-use Rattle.table_spec.specs.Limits.{maxBuses, maxDegree, maxNeed}
-use Rattle.table_spec.specs.Layout.{rowAt, busCount, needs, starts, entries, neighbourNumbers, startsAt, degree}
+use Rattle.table_spec.specs.Limits.{maxBuses, maxDegree, maxNeed, maxWeight}
+use Rattle.table_spec.specs.Layout.{rowAt, busCount, needs, weights, starts, entries, neighbourNumbers, startsAt, degree}
 
 -- x is from a to b
 unfoldable pub within : ℕ → ℕ → ℕ → Bool
@@ -31,9 +31,12 @@ complete from t = within 1 maxBuses (busCount t) && leb (entries from t) (length
 unfoldable pub inRange : ℕ → List ℕ → Bool
 inRange most l = allBelow (length l) (λ i. within 1 most (at l i))
 
--- so are needs
+-- so are needs, and so are weights
 abbrev pub needsInRange : List ℕ → Bool
 needsInRange q = inRange maxNeed q
+
+abbrev pub weightsInRange : List ℕ → Bool
+weightsInRange w = inRange maxWeight w
 
 -- starts never fall
 unfoldable pub neverFall : ℕ → List ℕ → Bool
@@ -76,7 +79,9 @@ needsCanBeMet n q degrees = allBelow n (λ i. canBeMet (at q i) (degrees i))
 
 -- a slice holds a network
 unfoldable pub holds : List ℕ → Bool
-holds t = complete (startsAt t) t && needsInRange (needs t) && twoWay (startsAt t) t && needsCanBeMet (busCount t) (needs t) (degree t)
+holds t =
+    complete (startsAt t) t && needsInRange (needs t) && weightsInRange (weights t) && twoWay (startsAt t) t
+    && needsCanBeMet (busCount t) (needs t) (degree t)
 
 -- ---- the same as facts
 
@@ -90,6 +95,9 @@ InRange most l = (i : ℕ) → i < length l → (1 ≤ at l i) × (at l i ≤ mo
 
 abbrev pub NeedsInRange : List ℕ → Type 0
 NeedsInRange q = InRange maxNeed q
+
+abbrev pub WeightsInRange : List ℕ → Type 0
+WeightsInRange w = InRange maxWeight w
 
 -- each row ends no earlier than it starts, and is short
 abbrev pub Steps : ℕ → List ℕ → Type 0
@@ -114,15 +122,17 @@ pub record SoundRows (n : ℕ) (s l : List ℕ) : Type 0 where
 abbrev pub Mirrored : ℕ → List ℕ → List ℕ → Type 0
 Mirrored n s l = (i j : ℕ) → i < n → j < n → has j (rowAt s l i) ≡ has i (rowAt s l j)
 
--- what makes a table one that can be scored, whichever way its lines run: it is complete, needs are above zero, rows are sound
+-- what makes a table one that can be scored, whichever way its lines run: it is complete, needs are above zero, weights keep their limit, rows are sound
 pub record Scorable (t : List ℕ) : Type 0 where
   pub complete : Complete (startsAt t) t
   pub needed : (i : ℕ) → i < busCount t → 1 ≤ at (needs t) i
+  pub weighed : (i : ℕ) → i < busCount t → at (weights t) i ≤ maxWeight
   pub rows : SoundRows (busCount t) (starts (startsAt t) t) (neighbourNumbers (startsAt t) t)
 
--- what makes it a network's: lines run both ways, needs keep their limits, and each can be met
+-- what makes it a network's: lines run both ways, weights are above zero, needs keep their limit, and each can be met
 pub record Holds (t : List ℕ) : Type 0 where
   pub shape : Scorable t
   pub mirrored : Mirrored (busCount t) (starts (startsAt t) t) (neighbourNumbers (startsAt t) t)
+  pub weighty : (i : ℕ) → i < busCount t → 1 ≤ at (weights t) i
   pub limited : (i : ℕ) → i < busCount t → at (needs t) i ≤ maxNeed
   pub met : (i : ℕ) → i < busCount t → canBeMet (at (needs t) i) (degree t i) ≡ true

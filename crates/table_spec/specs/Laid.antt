@@ -10,9 +10,9 @@ use Rattle.lists.specs.Below.{joinBelow, mapBelow}
 use Rattle.lists.specs.Places.{at-append, at-behind, part-between}
 use Rattle.lists.specs.Loops.{joinBelow-next}
 use Rattle.lists.specs.JoinBelow.{length-mapBelow, mapBelow-at, joinBelow-at, mapBelow-same, joinBelow-same}
-use Rattle.table_spec.specs.Limits.{maxBuses, maxDegree}
-use Rattle.table_spec.specs.Layout.{rowAt, laid, busCount, needs, starts, last, entries, neighbourNumbers, startsAt, row, tableOf}
-use Rattle.table_spec.specs.Holds.{canBeMet, NeedsInRange, ValidRow, SoundRows, Mirrored, Scorable, Holds}
+use Rattle.table_spec.specs.Limits.{maxBuses, maxDegree, maxWeight}
+use Rattle.table_spec.specs.Layout.{rowAt, laid, busCount, needs, weights, starts, last, entries, neighbourNumbers, startsAt, row, tableOf}
+use Rattle.table_spec.specs.Holds.{canBeMet, NeedsInRange, WeightsInRange, ValidRow, SoundRows, Mirrored, Scorable, Holds}
 use Rattle.table_spec.specs.TableOutcomes.{SameNetwork}
 use Rattle.table_spec.specs.BeyondTable.{beyond}
 
@@ -91,46 +91,55 @@ unfolding laid
 laid-same f g n h =
     ap₂ _++_ (mapBelow-same _ _ (n + 1) (λ i l. ap length (joinBelow-same f g i (λ j m. h j (omega arith))))) (joinBelow-same f g n h)
 
-pub length-tableOf : (n : ℕ) (q : List ℕ) (rows : ℕ → List ℕ) → length q ≡ n → length (tableOf n q rows) ≡ 2 * n + 2 + length (joinBelow n rows)
+pub length-tableOf : (n : ℕ) (q w : List ℕ) (rows : ℕ → List ℕ) → length q ≡ n → length w ≡ n → length (tableOf n q w rows) ≡ 3 * n + 2 + length (joinBelow n rows)
 unfolding tableOf
-length-tableOf n q rows long = omega (arith, length-append q (laid n rows), length-laid rows n, long)
+length-tableOf n q w rows long wide = omega (arith, length-append (q ++ w) (laid n rows), length-append q w, length-laid rows n, long, wide)
 
 -- a network's table, and whatever follows
-module _ (n : ℕ) (q : List ℕ) (rows : ℕ → List ℕ) (rest : List ℕ) (long : length q ≡ n) where
+module _ (n : ℕ) (q w : List ℕ) (rows : ℕ → List ℕ) (rest : List ℕ) (long : length q ≡ n) (wide : length w ≡ n) where
   abbrev made : List ℕ
-  made = tableOf n q rows ++ rest
+  made = tableOf n q w rows ++ rest
 
-  shape : made ≡ (n ∷ q) ++ (laid n rows ++ rest)
+  shape : made ≡ (n ∷ q ++ w) ++ (laid n rows ++ rest)
   unfolding tableOf
-  shape = append-assoc (n ∷ q) (laid n rows) rest
+  shape = append-assoc (n ∷ q ++ w) (laid n rows) rest
 
   pub made-busCount : busCount made ≡ n
   unfolding tableOf at
   made-busCount = refl
 
-  begin : startsAt made ≡ length (n ∷ q)
-  begin = omega (arith, made-busCount, long)
+  begin : startsAt made ≡ length (n ∷ q ++ w)
+  begin = omega (arith, made-busCount, length-append q w, long, wide)
 
   pub made-needs : needs made ≡ q
   unfolding needs
-  made-needs = ap₂ (λ k t. part 1 (1 + k) t) made-busCount shape ∙ part-between (n ∷ []) q (laid n rows ++ rest) {e = 1 + n} refl (omega (arith, long))
+  made-needs =
+      ap₂ (λ k t. part 1 (1 + k) t) made-busCount (shape ∙ append-assoc (n ∷ q) w (laid n rows ++ rest))
+      ∙ part-between (n ∷ []) q (w ++ (laid n rows ++ rest)) {e = 1 + n} refl (omega (arith, long))
+
+  pub made-weights : weights made ≡ w
+  unfolding weights
+  made-weights =
+      ap₂ (λ k t. part (1 + k) (1 + 2 * k) t) made-busCount (shape ∙ append-assoc (n ∷ q) w (laid n rows ++ rest))
+      ∙ part-between (n ∷ q) w (laid n rows ++ rest) {a = 1 + n} {e = 1 + 2 * n} (omega (arith, long)) (omega (arith, wide))
 
   pub made-last : last (startsAt made) made ≡ length (joinBelow n rows)
-  made-last = last-back n rows (n ∷ q) rest shape begin made-busCount
+  made-last = last-back n rows (n ∷ q ++ w) rest shape begin made-busCount
 
   pub made-row : (i : ℕ) → i < n → row made i ≡ rows i
   unfolding row
-  made-row i b = rows-back n rows (n ∷ q) rest shape begin made-busCount i b
+  made-row i b = rows-back n rows (n ∷ q ++ w) rest shape begin made-busCount i b
 
   -- rows that a network may have make a table that can be scored
-  pub made-scorable : 1 ≤ n → n ≤ maxBuses → ((i : ℕ) → i < n → 1 ≤ at q i) → ((i : ℕ) → i < n → ValidRow n i (rows i)) → ((i : ℕ) → i < n → length (rows i) ≤ maxDegree)
-      → Scorable made
+  pub made-scorable : 1 ≤ n → n ≤ maxBuses → ((i : ℕ) → i < n → 1 ≤ at q i) → ((i : ℕ) → i < n → at w i ≤ maxWeight)
+      → ((i : ℕ) → i < n → ValidRow n i (rows i)) → ((i : ℕ) → i < n → length (rows i) ≤ maxDegree) → Scorable made
   unfolding tableOf at
-  made-scorable least most needed valid short =
+  made-scorable least most needed weighed valid short =
       record {
-        complete = record { least = least; most = most; whole = omega (arith, made-last, length-tableOf n q rows long, length-append (tableOf n q rows) rest) };
+        complete = record { least = least; most = most; whole = omega (arith, made-last, length-tableOf n q w rows long wide, length-append (tableOf n q w rows) rest) };
         needed = λ i b. rw made-needs (needed i b);
-        rows = rows-sound n rows (n ∷ q) rest shape begin made-busCount valid short;
+        weighed = λ i b. rw made-weights (weighed i b);
+        rows = rows-sound n rows (n ∷ q ++ w) rest shape begin made-busCount valid short;
       }
 
   -- and mirrored rows a mirrored one
@@ -138,24 +147,25 @@ module _ (n : ℕ) (q : List ℕ) (rows : ℕ → List ℕ) (rest : List ℕ) (l
   unfolding tableOf row at
   made-mirrored mirror i j b c = ap (has j) (made-row i b) ∙ mirror i j b c ∙ sym (ap (has i) (made-row j c))
 
-  -- and if needs keep their limits and can be met, it is a network's
-  pub made-holds : 1 ≤ n → n ≤ maxBuses → NeedsInRange q → ((i : ℕ) → i < n → ValidRow n i (rows i)) → ((i : ℕ) → i < n → length (rows i) ≤ maxDegree)
+  -- and if needs and weights keep their limits and needs can be met, it is a network's
+  pub made-holds : 1 ≤ n → n ≤ maxBuses → NeedsInRange q → WeightsInRange w → ((i : ℕ) → i < n → ValidRow n i (rows i)) → ((i : ℕ) → i < n → length (rows i) ≤ maxDegree)
       → ((i j : ℕ) → i < n → j < n → has j (rows i) ≡ has i (rows j)) → ((i : ℕ) → i < n → canBeMet (at q i) (length (rows i)) ≡ true) → Holds made
   unfolding tableOf at
-  made-holds least most in-range valid short mirror met =
+  made-holds least most needed weighed valid short mirror met =
       record {
-        shape = made-scorable least most (λ i b. in-range i (omega (arith, long)) .0) valid short;
+        shape = made-scorable least most (λ i b. needed i (omega (arith, long)) .0) (λ i b. weighed i (omega (arith, wide)) .1) valid short;
         mirrored = made-mirrored mirror;
-        limited = λ i b. rw made-needs (in-range i (omega (arith, long)) .1);
+        weighty = λ i b. rw made-weights (weighed i (omega (arith, wide)) .0);
+        limited = λ i b. rw made-needs (needed i (omega (arith, long)) .1);
         met = λ i b. rw (made-needs, made-row i b) (met i b);
       }
 
 -- what follows a table that was made never matters
-module _ (n : ℕ) (q : List ℕ) (rows : ℕ → List ℕ) (long : length q ≡ n) where
-  made-whole : entries (startsAt (tableOf n q rows)) (tableOf n q rows) ≤ length (tableOf n q rows)
+module _ (n : ℕ) (q w : List ℕ) (rows : ℕ → List ℕ) (long : length q ≡ n) (wide : length w ≡ n) where
+  made-whole : entries (startsAt (tableOf n q w rows)) (tableOf n q w rows) ≤ length (tableOf n q w rows)
   made-whole =
-      let a = append-nil (tableOf n q rows) in
-      omega (arith, rw a at (made-busCount n q rows [] long), rw a at (made-last n q rows [] long), length-tableOf n q rows long)
+      let a = append-nil (tableOf n q w rows) in
+      omega (arith, rw a at (made-busCount n q w rows [] long wide), rw a at (made-last n q w rows [] long wide), length-tableOf n q w rows long wide)
 
-  pub made-beyond : (rest : List ℕ) → SameNetwork (tableOf n q rows ++ rest) (tableOf n q rows)
-  made-beyond rest = rw append-nil at (beyond (tableOf n q rows) rest [] made-whole)
+  pub made-beyond : (rest : List ℕ) → SameNetwork (tableOf n q w rows ++ rest) (tableOf n q w rows)
+  made-beyond rest = rw append-nil at (beyond (tableOf n q w rows) rest [] made-whole)

@@ -10,7 +10,7 @@ use Rattle.lists.specs.Lists.{at, part}
 use Rattle.lists.specs.Below.{joinBelow, mapBelow}
 use Rattle.lists.specs.Places.{take-next, take-part}
 use Rattle.lists.specs.JoinBelow.{length-joinBelow, mapBelow-same, mapBelow-entries}
-use Rattle.table_spec.specs.Layout.{rowAt, laid, busCount, needs, starts, entries, neighbourNumbers, startsAt, row, tableOf}
+use Rattle.table_spec.specs.Layout.{rowAt, laid, busCount, needs, weights, starts, entries, neighbourNumbers, startsAt, row, tableOf}
 use Rattle.table_spec.specs.Holds.{SoundRows, Scorable}
 use Rattle.table_spec.specs.Rows.{length-starts, length-numbers, last-start}
 use Rattle.table_spec.specs.LineCount.{start-sum}
@@ -41,10 +41,12 @@ module _ (t : List ℕ) (w : Scorable t) where
   abbrev from : ℕ
   from = startsAt t
 
-  first-section : n ∷ needs t ≡ take from t
-  unfolding needs
-  first-section =
-      ap (λ r. r ++ part 1 (1 + n) t) (sym (take-next 0 t (omega (arith, w .complete .whole)))) ∙ take-part 1 (1 + n) t (omega arith)
+  first-sections : n ∷ needs t ++ weights t ≡ take from t
+  unfolding needs weights
+  first-sections =
+      ap (λ r. (r ++ part 1 (1 + n) t) ++ part (1 + n) from t) (sym (take-next 0 t (omega (arith, w .complete .whole))))
+      ∙ ap (λ r. r ++ part (1 + n) from t) (take-part 1 (1 + n) t (omega arith))
+      ∙ take-part (1 + n) from t (omega arith)
 
   other-sections : take from t ++ (starts from t ++ neighbourNumbers from t) ≡ take (entries from t) t
   unfolding starts neighbourNumbers
@@ -54,9 +56,9 @@ module _ (t : List ℕ) (w : Scorable t) where
       ∙ take-part (from + n + 1) (entries from t) t (omega arith)
 
   -- THE SAME TABLE
-  pub made-again : tableOf (busCount t) (needs t) (row t) ≡ take (entries (startsAt t) t) t
+  pub made-again : tableOf (busCount t) (needs t) (weights t) (row t) ≡ take (entries (startsAt t) t) t
   unfolding tableOf row
   made-again =
       let c = w .complete in
       let rows = laid-again n (starts from t) (neighbourNumbers from t) (w .rows) (length-starts from t c) (length-numbers from t c ∙ sym (last-start from t c)) in
-      ap₂ _++_ first-section rows ∙ other-sections
+      ap₂ _++_ first-sections rows ∙ other-sections

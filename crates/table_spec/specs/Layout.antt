@@ -1,5 +1,5 @@
--- Where a line table has what: the bus count, the needs, the row starts, the neighbour numbers. Row starts begin at `from`, so that a section
--- between needs and row starts moves one definition.
+-- Where a line table has what: the bus count, the needs, the weights, the row starts, the neighbour numbers. Row starts begin at `from`, so that a
+-- section before them moves one definition.
 -- Definitions only.
 use mathlib.Core.List.{List, _∷_, _++_}
 use Prim.Native.Nat.{ℕ, _+_, _-_, _*_}
@@ -49,9 +49,13 @@ neighbourNumbers from t = part (from + busCount t + 1) (entries from t) t
 
 -- ---- a network's table
 
--- its row starts begin behind the needs
+-- n weights, behind the needs
+unfoldable pub weights : List ℕ → List ℕ
+weights t = part (1 + busCount t) (1 + 2 * busCount t) t
+
+-- behind them begin its row starts
 abbrev pub startsAt : List ℕ → ℕ
-startsAt t = 1 + busCount t
+startsAt t = 1 + 2 * busCount t
 
 -- the neighbours of bus i
 unfoldable pub row : List ℕ → ℕ → List ℕ
@@ -68,14 +72,18 @@ degree t i = length (row t i)
 abbrev pub need : List ℕ → ℕ → ℕ
 need t i = at (needs t) i
 
+-- its weight
+abbrev pub weight : List ℕ → ℕ → ℕ
+weight t i = at (weights t) i
+
 -- m, the number of lines: at each bus its neighbours below it, so that a line is counted once, at its higher bus
 unfoldable pub lines : List ℕ → ℕ
 lines t = sumBelow (busCount t) (λ i. countBelow i (λ j. has j (row t i)))
 
 -- how many entries the table of n buses and m lines has
 abbrev pub tableEntries : ℕ → ℕ → ℕ
-tableEntries n m = 2 * n + 2 + 2 * m
+tableEntries n m = 3 * n + 2 + 2 * m
 
--- the table of n buses with the needs q and these rows
-unfoldable pub tableOf : ℕ → List ℕ → (ℕ → List ℕ) → List ℕ
-tableOf n q rows = (n ∷ q) ++ laid n rows
+-- the table of n buses with the needs q, the weights w and these rows
+unfoldable pub tableOf : ℕ → List ℕ → List ℕ → (ℕ → List ℕ) → List ℕ
+tableOf n q w rows = (n ∷ q ++ w) ++ laid n rows

@@ -16,6 +16,10 @@ maxDegree = 23
 abbrev pub maxNeed : ℕ
 maxNeed = 24
 
+-- weight of a bus
+abbrev pub maxWeight : ℕ
+maxWeight = 1000
+
 -- lines of a network: each stands at two buses
 abbrev pub maxLines : ℕ
 maxLines = maxBuses * maxDegree / 2
@@ -24,6 +28,6 @@ maxLines = maxBuses * maxDegree / 2
 abbrev pub maxEntries : ℕ
 maxEntries = tableEntries maxBuses maxLines
 
--- bytes of a network file: two counts of two bytes, a byte for each need, a record of four for each line
+-- bytes of a network file: three counts of two bytes, a byte for each need, a record of four for each line, two for each weight
 abbrev pub maxBytes : ℕ
-maxBytes = 2 + maxBuses + 2 + 4 * maxLines
+maxBytes = 2 + maxBuses + 2 + 4 * maxLines + 2 + 2 * maxBuses

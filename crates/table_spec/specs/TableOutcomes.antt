@@ -9,7 +9,7 @@ use lib.ListN.{length}
 use Rattle.lists.specs.Lists.{part}
 use Rattle.refusals.specs.declared.Refusal.the-variants.{NoNetwork, NoSuchBus}
 use Rattle.refusals.specs.Outcomes.{Outcome, gives, refuses, Cause, _⇒_, outcome, valuesOr}
-use Rattle.table_spec.specs.Layout.{busCount, needs, row, rowStart, degree}
+use Rattle.table_spec.specs.Layout.{busCount, needs, weights, row, rowStart, degree}
 use Rattle.table_spec.specs.Holds.{holds}
 
 -- why any call on a table is refused: the slice holds no network, which is tested first; then the call's own causes
@@ -45,6 +45,7 @@ pub record SameNetwork (a b : List ℕ) : Type 0 where
   pub judged : holds a ≡ holds b
   pub sizes : busCount a ≡ busCount b
   pub needed : needs a ≡ needs b
+  pub weighed : weights a ≡ weights b
   pub rows : (i : ℕ) → row a i ≡ row b i
   pub degreeAnswers : (bus : ℕ) → degreeOutcome a bus ≡ degreeOutcome b bus
   pub rowAnswers : (bus : ℕ) → rowOutcome a bus ≡ rowOutcome b bus
