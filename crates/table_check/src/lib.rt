@@ -4,7 +4,7 @@ ghost use mathlib.Core.Path.{_≡_};
 ghost use Prim.Native.Nat.{_^_, _≤_, _<_};
 ghost use lib.ListN.{length};
 ghost use Rattle.table_spec.specs.Layout.{rowSize};
-ghost use Rattle.table_spec.specs.Holds.{complete, needsInRange, twoWay, needsCanBeMet, holds, Complete, Steps};
+ghost use Rattle.table_spec.specs.Holds.{complete, needsInRange, weightsInRange, twoWay, needsCanBeMet, holds, Complete, Steps};
 
 pub mod mirrors;
 pub mod rows;
@@ -18,6 +18,7 @@ use network::table::needs;
 use network::table::neighbour_numbers;
 use network::table::starts;
 use network::table::starts_at;
+use network::table::weights;
 use network::within;
 use rows::sound_rows;
 
@@ -50,15 +51,19 @@ fn two_way(table: &[u16], from: usize) -> bool
     mirrored(starts, numbers, n)
 }
 
-// Whether every need is one that a bus may have, and can be met: the degree of a bus is how far its row start is from the next.
-fn valid_needs(needs: &[u16], starts: &[u16]) -> bool
-    requires { ⌜ (length (now needs) < length (now starts)) × Steps (length (now needs)) (now starts) ⌝ }
-    ensures { λ b. ⌜ b ≡ (needsInRange (now (needs .entry)) && needsCanBeMet (length (now (needs .entry))) (now (needs .entry)) (rowSize (now (starts .entry)))) ⌝ }
+// Whether every need and every weight is one that a bus may have, and each need can be met: the degree of a bus is how far its row start is from the next.
+fn valid_buses(needs: &[u16], weights: &[u16], starts: &[u16]) -> bool
+    requires { ⌜ (length (now needs) ≡ length (now weights)) × (length (now needs) < length (now starts)) × Steps (length (now needs)) (now starts) ⌝ }
+    ensures { λ b. ⌜ b ≡ (needsInRange (now (needs .entry)) && weightsInRange (now (weights .entry)) && needsCanBeMet (length (now (needs .entry))) (now (needs .entry)) (rowSize (now (starts .entry)))) ⌝ }
 {
     let mut bus = 0;
     while bus < needs.len() {
         let need = entry(needs, bus);
         if !within(1, Network::NEED, need) {
+            return false;
+        }
+        let weight = entry(weights, bus);
+        if !within(1, Network::WEIGHT, weight) {
             return false;
         }
         let degree = entry(starts, bus + 1) - entry(starts, bus);
@@ -84,5 +89,5 @@ pub fn holds(table: &[u16]) -> bool
     if !two_way(table, from) {
         return false;
     }
-    valid_needs(needs(table), starts(table, from))
+    valid_buses(needs(table), weights(table), starts(table, from))
 }

@@ -34,19 +34,22 @@ is-two-way d = passed (d .before .two-way .ensures) (d .if3 .left)
 needs-requires : tie.Need-needs-requires
 needs-requires c κs = let z = complete-facts _ _ (is-complete c) in omega arith
 
-starts-requires : tie.Need-starts-requires
-starts-requires c κs = complete-facts _ _ (is-complete (c .before))
+weights-requires : tie.Need-weights-requires
+weights-requires c κs = let z = complete-facts _ _ (is-complete (c .before)) in omega (arith, entered (c .before) .before .starts-at .ensures .0)
 
-valid-needs-requires : tie.Need-valid-needs-requires
-valid-needs-requires c κs =
-    let d = c .before .before in
-    steps-read _ (entered d .before .starts-at .ensures .0) (c .starts .ensures) (c .before .needs .ensures) (is-complete d) (is-two-way d)
+starts-requires : tie.Need-starts-requires
+starts-requires c κs = complete-facts _ _ (is-complete (c .before .before))
+
+valid-buses-requires : tie.Need-valid-buses-requires
+valid-buses-requires c κs =
+    let d = c .before .before .before in
+    steps-read _ (entered d .before .starts-at .ensures .0) (c .starts .ensures) (c .before .before .needs .ensures) (c .before .weights .ensures) (is-complete d) (is-two-way d)
 
 returns-4 : tie.Need-returns-4
 returns-4 c =
     let e = c .before in
-    let d = e .before .before in
-    holds-read _ (entered d .before .starts-at .ensures .0) (e .starts .ensures) (e .before .needs .ensures) (is-complete d) (is-two-way d) (c .valid-needs .ensures)
+    let d = e .before .before .before in
+    holds-read _ (entered d .before .starts-at .ensures .0) (e .starts .ensures) (e .before .before .needs .ensures) (e .before .weights .ensures) (is-complete d) (is-two-way d) (c .valid-buses .ensures)
 
 pub holds-spec : {M : Type 1} → statement M
 holds-spec =
@@ -59,6 +62,7 @@ holds-spec =
     two-way-requires
     returns-3
     needs-requires
+    weights-requires
     starts-requires
-    valid-needs-requires
+    valid-buses-requires
     returns-4)
