@@ -2,7 +2,7 @@
 use mathlib.Core.List.{List}
 use mathlib.Core.Path.{_≡_, ap, subst, _∙_}
 use Prim.Native.Nat.{ℕ, _+_, _*_, _^_, _≤_, _<_}
-use native.Mathlib.Nat.{mul-le-mul}
+use native.Mathlib.Nat.{mul-le-mul, mul-le-mul-right}
 use native.Mathlib.Omega.{arith}
 use lib.ListN.{length, replicate}
 use Rattle.lists.specs.Lists.{_∈_, at, put}
@@ -10,8 +10,8 @@ use Rattle.lists.specs.Below.{mapBelow, range}
 use Rattle.lists.specs.Loops.{sumBelow-next}
 use Rattle.lists.specs.SumsBelow.{sumBelow-le, sumBelow-const}
 use Rattle.game.specs.Game.{Game, numerator as formula}
-use Rattle.table_spec.specs.Limits.{maxBuses}
-use Rattle.table_spec.specs.Layout.{busCount, row, need}
+use Rattle.table_spec.specs.Limits.{maxBuses, maxWeight}
+use Rattle.table_spec.specs.Layout.{busCount, row, need, weight}
 use Rattle.table_spec.specs.Holds.{Scorable}
 use Rattle.share_spec.specs.TableNetwork.{gameOf, maxDenominator, Over}
 use Rattle.share_spec.specs.TableGame.{game-on, term-whole}
@@ -24,17 +24,24 @@ use Rattle.scorer.specs.ScorerWork.{Room}
 -- ---- what one bus gives
 
 module _ {t : List ℕ} (w : Scorable t) {L : ℕ} (o : Over t L) {bus : ℕ} (b : bus < busCount t) where
-  given-le : (v : ℕ) → termTo (gameOf t) L bus v ≤ L
-  given-le v = omega (arith, term-by-row t L bus v, terms-le (need t bus) (row t bus) L bus v (term-whole w o bus b))
+  given-le : (v : ℕ) → termTo (gameOf t) L bus v ≤ maxWeight * L
+  given-le v =
+      omega (
+        arith,
+        term-by-row t L bus v,
+        terms-le (weight t bus) (need t bus) (row t bus) L bus v (term-whole w o bus b),
+        mul-le-mul-right {m = weight t bus} {n = maxWeight} L (w .weighed bus b),
+      )
 
   -- its row r, as code has it
   module _ {r : List ℕ} (er : r ≡ row t bus) where
     -- the numerators x have room for its terms
-    pub terms-room : (x : List ℕ) → Room (busCount t) L x → ((bus < length x) × (at x bus + L < 2 ^ 64)) × ((v : ℕ) → v ∈ r → (v < length x) × (at x v + L < 2 ^ 64))
+    pub terms-room : (x : List ℕ) → Room (busCount t) (maxWeight * L) x
+        → ((bus < length x) × (at x bus + maxWeight * L < 2 ^ 64)) × ((v : ℕ) → v ∈ r → (v < length x) × (at x v + maxWeight * L < 2 ^ 64))
     terms-room x room = (room bus b, λ v m. room v (row-inside w b er v m))
 
-    pub all-terms : {k : ℕ} {x y : List ℕ} → k ≡ need t bus → Added (termsFrom k r L bus) x y → Added (termTo (gameOf t) L bus) x y
-    all-terms ek a = added-same (added-by L bus ek er a) (term-by-row t L bus)
+    pub all-terms : {m k : ℕ} {x y : List ℕ} → m ≡ weight t bus → k ≡ need t bus → Added (termsFrom m k r L bus) x y → Added (termTo (gameOf t) L bus) x y
+    all-terms em ek a = added-same (added-by L bus em ek er a) (term-by-row t L bus)
 
 -- ---- bus by bus
 
@@ -43,15 +50,15 @@ pub bus-added : (g : Game) (L m : ℕ) {z u k : List ℕ} → Added (givenBy g L
 bus-added g L m a b = added-both a b (λ v. sumBelow-next m (λ u. termTo g L u v))
 
 module _ {t : List ℕ} (w : Scorable t) {L : ℕ} (o : Over t L) where
-  -- the first m buses give at most L each
-  given-by-le : (m v : ℕ) → m ≤ busCount t → givenBy (gameOf t) L m v ≤ m * L
-  given-by-le m v h = rw (← sumBelow-const L m) (sumBelow-le _ _ m (λ u b. given-le w o {bus = u} (omega arith) v))
+  -- the first m buses give at most the highest weight times L each
+  given-by-le : (m v : ℕ) → m ≤ busCount t → givenBy (gameOf t) L m v ≤ m * (maxWeight * L)
+  given-by-le m v h = rw (← sumBelow-const (maxWeight * L) m) (sumBelow-le _ _ m (λ u b. given-le w o {bus = u} (omega arith) v))
 
   -- the first n entries of s were cleared, which left z, and then the first m buses added their terms, which left u
   module _ (s : List ℕ) {n : ℕ} {z : List ℕ} (en : n ≡ busCount t) (h : n ≤ length s) (cleared : z ≡ put s 0 (replicate n 0))
       (m : ℕ) {u : List ℕ} (a : Added (givenBy (gameOf t) L m) z u) where
     -- bus m finds room for its own
-    pub bus-room : m < n → Room (busCount t) L u
+    pub bus-room : m < n → Room (busCount t) (maxWeight * L) u
     bus-room b v c = (
       omega (arith, a .long, cleared-long s h cleared),
       omega (
@@ -60,7 +67,7 @@ module _ {t : List ℕ} (w : Scorable t) {L : ℕ} (o : Over t L) where
         cleared-zero s h cleared v (omega arith),
         given-by-le m v (omega arith),
         o .bounded,
-        mul-le-mul {n₁ = m} {m₁ = L} {n₂ = maxBuses} {m₂ = maxDenominator} (omega (arith, w .complete .most)) (o .bounded),
+        mul-le-mul {n₁ = m} {m₁ = maxWeight * L} {n₂ = maxBuses} {m₂ = maxWeight * maxDenominator} (omega (arith, w .complete .most)) (omega (arith, o .bounded)),
       ),
     )
 

@@ -10,6 +10,6 @@ use Rattle.table_spec.specs.Limits.{maxDegree}
 abbrev pub degrees : ℕ
 degrees = maxDegree + 1
 
--- each of n buses has an entry, where L more fits
+-- each of n buses has an entry, where x more fits
 abbrev pub Room : ℕ → ℕ → List ℕ → Type 0
-Room n L entries = (v : ℕ) → v < n → (v < length entries) × (at entries v + L < 2 ^ 64)
+Room n x entries = (v : ℕ) → v < n → (v < length entries) × (at entries v + x < 2 ^ 64)

@@ -1,12 +1,13 @@
 // Shares of the buses of a network: of all of them, or of one.
 ghost use mathlib.Core.Path.{_≡_};
-ghost use Prim.Native.Nat.{_≤_, _<_};
+ghost use Prim.Native.Nat.{_*_, _≤_, _<_};
 ghost use lib.ListN.{length};
 ghost use Rattle.lists.specs.Lists.{Tabled, put};
 ghost use Rattle.lists.specs.Below.{mapBelow, range};
-ghost use Rattle.table_spec.specs.Layout.{busCount};
+ghost use Rattle.table_spec.specs.Limits.{maxWeight};
+ghost use Rattle.table_spec.specs.Layout.{busCount, need, degree};
 ghost use Rattle.table_spec.specs.Holds.{Scorable, Holds};
-ghost use Rattle.game.specs.Game.{neighbour, numerator as formula};
+ghost use Rattle.game.specs.Game.{neighbourTerm, numerator as formula};
 ghost use Rattle.share_spec.specs.Network.{denominator};
 ghost use Rattle.share_spec.specs.TableNetwork.{gameOf, Over};
 ghost use Rattle.share_spec.specs.Formula.{numeratorOver, numerator};
@@ -23,6 +24,7 @@ use network::rows::entry;
 use network::table::bus_count;
 use network::table::need;
 use network::table::neighbours;
+use network::table::weight;
 use share_terms::add_terms;
 use share_terms::clear;
 pub use share_terms::denominator;
@@ -67,12 +69,13 @@ fn units(over: u64) -> [u64; DEGREES]
 // Adds the terms of a bus.
 fn add_bus(table: &[u16], over: u64, units: &[u64; DEGREES], bus: usize, numerators: &mut [u64])
     requires { ⌜ Scorable (now table) × (bus < busCount (now table)) × Over (now table) over ⌝ }
-    requires { ⌜ Tabled degrees (unit over) (now units) × Room (busCount (now table)) over (now numerators) ⌝ }
+    requires { ⌜ Tabled degrees (unit over) (now units) × Room (busCount (now table)) (maxWeight * over) (now numerators) ⌝ }
     ensures { λ _. ⌜ Added (termTo (gameOf (now (table .entry))) over bus) (now (numerators .entry)) (now (numerators .exit)) ⌝ }
 {
     let row = neighbours(table, bus);
+    let weight = weight(table, bus);
     let need = need(table, bus);
-    add_terms(over, need, row, units[row.len()], bus, numerators);
+    add_terms(over, weight, need, row, units[row.len()], bus, numerators);
 }
 
 // Stores the numerators of all buses, whichever way the table's lines run, over any L that makes their terms whole.
@@ -101,27 +104,27 @@ pub fn score(table: &[u16], numerators: &mut [u64]) -> u64
     over
 }
 
-// What a bus gives to each neighbour.
+// What a bus of weight 1 would give to each neighbour.
 fn given(table: &[u16], over: u64, bus: usize) -> u64
     requires { ⌜ Scorable (now table) × (bus < busCount (now table)) × Over (now table) over ⌝ }
-    ensures { λ r. ⌜ r ≡ neighbour (gameOf (now (table .entry))) over bus ⌝ }
+    ensures { λ r. ⌜ r ≡ neighbourTerm (need (now (table .entry)) bus) (degree (now (table .entry)) bus) over ⌝ }
 {
     let degree = neighbours(table, bus).len();
     let need = need(table, bus);
     term(need, degree, unit(over, degree))
 }
 
-// The numerator of one bus: what its neighbours leave it of its own L, which is its own term, and what they give it.
+// The numerator of one bus: its own term, which is what its neighbours leave of L, and what they give it, each times the weight of the bus that it concerns.
 fn numerator(table: &[u16], over: u64, bus: usize) -> u64
     requires { ⌜ Scorable (now table) × (bus < busCount (now table)) × Over (now table) over ⌝ }
     ensures { λ r. ⌜ r ≡ numeratorOver (networkOf (now (table .entry))) over bus ⌝ }
 {
     let row = neighbours(table, bus);
-    let mut sum = over - (row.len() as u64) * given(table, over, bus);
+    let mut sum = weight(table, bus) * (over - (row.len() as u64) * given(table, over, bus));
     let mut k = 0;
     while k < row.len() {
         let neighbour = entry(row, k);
-        sum += given(table, over, neighbour);
+        sum += weight(table, neighbour) * given(table, over, neighbour);
         k += 1;
     }
     sum

@@ -5,12 +5,12 @@ use mathlib.Core.List.{List}
 use Prim.Native.Nat.{ℕ, suc, _+_, _*_, _≤_, _<_, _∣_}
 use Rattle.lists.specs.Below.{largestBelow, mapBelow}
 use Rattle.game.specs.Game.{Game}
-use Rattle.table_spec.specs.Layout.{busCount, row, degree, need}
+use Rattle.table_spec.specs.Layout.{busCount, row, degree, need, weight}
 use Rattle.share_spec.specs.Network.{Network}
 
--- to see a bus is worth 1
+-- to see a bus is worth its weight
 abbrev pub gameOf : List ℕ → Game
-gameOf t = record { watchers = row t; need = need t; weight = λ u. 1 }
+gameOf t = record { watchers = row t; need = need t; weight = weight t }
 
 unfoldable pub largestDegree : List ℕ → ℕ
 largestDegree t = largestBelow (busCount t) (degree t)

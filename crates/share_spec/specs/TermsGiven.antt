@@ -2,9 +2,9 @@
 -- that is the closed formula.
 use mathlib.Core.Bool.{cond}
 use mathlib.Core.List.{List}
-use mathlib.Core.Path.{_≡_, sym, ap, ap₂, _∙_}
+use mathlib.Core.Path.{_≡_, refl, sym, ap, _∙_}
 use Prim.Native.Nat.{ℕ, _+_, _*_, _≤_, _<_}
-use native.Mathlib.Nat.{one-mul, mul-zero, mul-le-mul-left}
+use native.Mathlib.Nat.{mul-zero, mul-le-mul-left}
 use native.Mathlib.Omega.{arith}
 use borrow.Author.Tests.{lt-ltb, ne-eqb}
 use lib.Dec.{eqb}
@@ -17,7 +17,7 @@ use Rattle.lists.specs.Counts.{has-in, has-none, count-le, has-once}
 use Rattle.lists.specs.SumsBelow.{sumBy-range, sumBelow-same, sumBelow-add, sumBelow-const, sumBelow-single, in-range, of-range}
 use Rattle.game.specs.Game.{Game, ownTerm, neighbourTerm, own, neighbour, GameOn, Whole, numerator as formula}
 use Rattle.game.specs.Terms.{terms-whole}
-use Rattle.table_spec.specs.Layout.{row, need}
+use Rattle.table_spec.specs.Layout.{row, need, weight}
 use Rattle.share_spec.specs.Network.{Network, Watching}
 use Rattle.share_spec.specs.Formula.{numeratorOver}
 use Rattle.share_spec.specs.TableNetwork.{gameOf}
@@ -27,23 +27,23 @@ use Rattle.share_spec.specs.FairFormula.{as-game}
 unfoldable pub termTo : Game → ℕ → ℕ → ℕ → ℕ
 termTo g L u v = own g L u * indicator (eqb v u) + neighbour g L u * count v (g .watchers u)
 
--- the same by the need k and the row r of bus u
-unfoldable pub termsFrom : ℕ → List ℕ → ℕ → ℕ → ℕ → ℕ
-termsFrom k r L u v = ownTerm k (length r) L * indicator (eqb v u) + neighbourTerm k (length r) L * count v r
+-- the same by the weight w, the need k and the row r of bus u
+unfoldable pub termsFrom : ℕ → ℕ → List ℕ → ℕ → ℕ → ℕ → ℕ
+termsFrom w k r L u v = w * ownTerm k (length r) L * indicator (eqb v u) + w * neighbourTerm k (length r) L * count v r
 
-pub term-by-row : (t : List ℕ) (L u v : ℕ) → termTo (gameOf t) L u v ≡ termsFrom (need t u) (row t u) L u v
+pub term-by-row : (t : List ℕ) (L u v : ℕ) → termTo (gameOf t) L u v ≡ termsFrom (weight t u) (need t u) (row t u) L u v
 unfolding termTo termsFrom
-term-by-row t L u v = ap₂ (λ x y. x * indicator (eqb v u) + y * count v (row t u)) (one-mul _) (one-mul _)
+term-by-row t L u v = refl
 
--- no bus gets more than L from another
-pub terms-le : (k : ℕ) (r : List ℕ) (L u v : ℕ) → Whole k (length r) L → termsFrom k r L u v ≤ L
+-- no bus gets more from another than L times its weight
+pub terms-le : (w k : ℕ) (r : List ℕ) (L u v : ℕ) → Whole k (length r) L → termsFrom w k r L u v ≤ w * L
 unfolding termsFrom
-terms-le k r L u v w =
+terms-le w k r L u v h =
     omega (
       arith,
-      terms-whole k (length r) L w,
-      mul-le-mul-left (ownTerm k (length r) L) (indicator-le (eqb v u)),
-      mul-le-mul-left (neighbourTerm k (length r) L) (count-le v r),
+      ap (λ x. w * x) (terms-whole k (length r) L h),
+      mul-le-mul-left (w * ownTerm k (length r) L) (indicator-le (eqb v u)),
+      mul-le-mul-left (w * neighbourTerm k (length r) L) (count-le v r),
     )
 
 -- what the first m buses give to the numerator of bus v

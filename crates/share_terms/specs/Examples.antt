@@ -5,8 +5,8 @@ use Prim.Native.Nat.{_+_}
 use Rattle.lists.specs.Lists.{at}
 use Rattle.lists.specs.Below.{joinBelow, mapBelow}
 use Rattle.game.specs.Game.{neighbourTerm, neighbour}
-use Rattle.table_spec.specs.Layout.{rowAt, needs, starts, neighbourNumbers, row}
-use Rattle.table_spec.specs.Examples.{path}
+use Rattle.table_spec.specs.Layout.{rowAt, needs, weights, starts, neighbourNumbers, row}
+use Rattle.table_spec.specs.Examples.{path, weighted}
 use Rattle.share_spec.specs.TableNetwork.{gameOf}
 use Rattle.share_terms.specs.Unit.{unit}
 use Rattle.share_terms.specs.TermCases.{termCase}
@@ -18,12 +18,17 @@ units = refl
 
 -- over 6: bus 0 gives 3 to bus 1, and bus 1 gives 2 to each end if it needs 1, 1 if it needs 2, and nothing if it needs 3
 given : mapBelow 3 (neighbour (gameOf (path 1)) 6) ≡ 3 ∷ 2 ∷ 3 ∷ []
-unfolding path neighbourTerm mapBelow joinBelow rowAt needs starts neighbourNumbers row at
+unfolding path neighbourTerm mapBelow joinBelow rowAt needs weights starts neighbourNumbers row at
 given = refl
 
 by-need : (neighbour (gameOf (path 2)) 6 1 ∷ neighbour (gameOf (path 3)) 6 1 ∷ []) ≡ 1 ∷ 0 ∷ []
-unfolding path neighbourTerm mapBelow joinBelow rowAt needs starts neighbourNumbers row at
+unfolding path neighbourTerm mapBelow joinBelow rowAt needs weights starts neighbourNumbers row at
 by-need = refl
+
+-- with weights 1, 5 and 2 bus 1 gives 10 to each end
+by-weight : mapBelow 3 (neighbour (gameOf (weighted 1 5 2)) 6) ≡ 3 ∷ 10 ∷ 6 ∷ []
+unfolding weighted neighbourTerm mapBelow joinBelow rowAt needs weights starts neighbourNumbers row at
+by-weight = refl
 
 -- need 1 to 4 at degree 3: need 1, between, equal to degree, above degree; and what that gives over 12
 cases : mapBelow 4 (λ k. termCase (k + 1) 3) ≡ 3 ∷ 4 ∷ 2 ∷ 1 ∷ []

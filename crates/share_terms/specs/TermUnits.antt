@@ -1,16 +1,16 @@
 -- The term of a bus by its unit: d(d+1) units are L, where a bus has d neighbours.
 use mathlib.Core.List.{List}
 use mathlib.Core.Logic.{⊎-elim}
-use mathlib.Core.Path.{_≡_, sym, ap, _∙_}
+use mathlib.Core.Path.{_≡_, sym, ap, ap₂, _∙_}
 use Prim.Native.Nat.{ℕ, _+_, _*_, _≤_, _<_, _∣_}
-use native.Mathlib.Nat.{eq-zero-or-pos, one-mul, div-mul-cancel, div-mul-le-self}
+use native.Mathlib.Nat.{eq-zero-or-pos, div-mul-cancel, div-mul-le-self}
 use native.Mathlib.Omega.{arith}
-use Rattle.game.specs.Game.{neighbourTerm, neighbour}
+use Rattle.game.specs.Game.{neighbourTerm}
 use Rattle.table_spec.specs.Limits.{maxDegree}
 use Rattle.table_spec.specs.Layout.{busCount, degree, need}
 use Rattle.table_spec.specs.Holds.{Scorable}
 use Rattle.table_spec.specs.Rows.{degree-le}
-use Rattle.share_spec.specs.TableNetwork.{gameOf, maxDenominator, Over}
+use Rattle.share_spec.specs.TableNetwork.{maxDenominator, Over}
 use Rattle.share_terms.specs.Unit.{unit}
 use Rattle.share_terms.specs.CaseLaws.{need-above-degree}
 
@@ -39,5 +39,5 @@ module _ {t : List ℕ} (w : Scorable t) {L : ℕ} (o : Over t L) {bus d k u : �
   pub term-asks : (1 ≤ k) × (d ≤ maxDegree) × (u * (d * (d + 1)) ≤ maxDenominator)
   term-asks = (needed, omega (arith, degree-le w bus b), omega (arith, unit-le needed divided eu, o .bounded))
 
-  pub term-read : {x : ℕ} → x ≡ neighbourTerm k d (u * (d * (d + 1))) → x ≡ neighbour (gameOf t) L bus
-  term-read e = e ∙ unit-term needed divided eu ∙ rw (ed, ek) (sym (one-mul _))
+  pub term-read : {x : ℕ} → x ≡ neighbourTerm k d (u * (d * (d + 1))) → x ≡ neighbourTerm (need t bus) (degree t bus) L
+  term-read e = e ∙ unit-term needed divided eu ∙ ap₂ (λ k d. neighbourTerm k d L) ek ed

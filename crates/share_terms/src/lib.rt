@@ -5,7 +5,7 @@ ghost use lib.ListN.{length, replicate};
 ghost use Rattle.lists.specs.Lists.{count, _∈_, at, put};
 ghost use Rattle.lists.specs.Below.{mapBelow};
 ghost use Rattle.fraction.specs.Divisors.{lcmAll};
-ghost use Rattle.table_spec.specs.Limits.{maxDegree};
+ghost use Rattle.table_spec.specs.Limits.{maxDegree, maxWeight};
 ghost use Rattle.table_spec.specs.Holds.{Scorable};
 ghost use Rattle.game.specs.Game.{neighbourTerm};
 ghost use Rattle.share_spec.specs.TableNetwork.{largestDegree, divisorsOf, maxDenominator};
@@ -126,14 +126,23 @@ pub fn give(row: &[u16], term: u64, numerators: &mut [u64])
     }
 }
 
-// Adds the terms of a bus by its need, its row and the unit of its degree: to its own entry what is left of its L, and to the entry of each bus in its row what it gives.
-pub fn add_terms(over: u64, need: usize, row: &[u16], one: u64, bus: usize, numerators: &mut [u64])
-    requires { ⌜ (1 ≤ need) × (length (now row) ≤ maxDegree) × Divided (length (now row)) over × (one ≡ unit over (length (now row))) ⌝ }
-    requires { ⌜ (bus < length (now numerators)) × (at (now numerators) bus + over < 2 ^ 64) ⌝ }
-    requires { ⌜ ((v : ℕ) → v ∈ now row → (v < length (now numerators)) × (at (now numerators) v + over < 2 ^ 64)) ⌝ }
-    ensures { λ _. ⌜ Added (termsFrom need (now (row .entry)) over bus) (now (numerators .entry)) (now (numerators .exit)) ⌝ }
+// Adds the terms of a bus by its weight, its need, its row and the unit of its degree: to its own entry what is left of L, and to the entry of each bus in
+// its row what it gives, all times its weight.
+pub fn add_terms(
+    over: u64,
+    weight: u64,
+    need: usize,
+    row: &[u16],
+    one: u64,
+    bus: usize,
+    numerators: &mut [u64],
+)
+    requires { ⌜ (weight ≤ maxWeight) × (1 ≤ need) × (length (now row) ≤ maxDegree) × Divided (length (now row)) over × (one ≡ unit over (length (now row))) ⌝ }
+    requires { ⌜ (bus < length (now numerators)) × (at (now numerators) bus + maxWeight * over < 2 ^ 64) ⌝ }
+    requires { ⌜ ((v : ℕ) → v ∈ now row → (v < length (now numerators)) × (at (now numerators) v + maxWeight * over < 2 ^ 64)) ⌝ }
+    ensures { λ _. ⌜ Added (termsFrom weight need (now (row .entry)) over bus) (now (numerators .entry)) (now (numerators .exit)) ⌝ }
 {
     let term = term(need, row.len(), one);
-    numerators[bus] += over - (row.len() as u64) * term;
-    give(row, term, numerators);
+    numerators[bus] += weight * (over - (row.len() as u64) * term);
+    give(row, weight * term, numerators);
 }

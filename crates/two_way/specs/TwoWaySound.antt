@@ -2,10 +2,10 @@
 use mathlib.Core.Bool.{true}
 use mathlib.Core.List.{List}
 use mathlib.Core.Path.{_≡_, refl}
-use Prim.Native.Nat.{ℕ, _<_}
-use native.Mathlib.Omega.{arith}
+use Prim.Native.Nat.{ℕ, _*_, _≤_, _<_}
 use Rattle.lists.specs.Lists.{has}
-use Rattle.lists.specs.SumsBelow.{sumBelow-const}
+use Rattle.lists.specs.SumsBelow.{sumBelow-le, sumBelow-const}
+use Rattle.table_spec.specs.Limits.{maxWeight}
 use Rattle.table_spec.specs.Layout.{busCount, row, starts, neighbourNumbers, startsAt}
 use Rattle.table_spec.specs.Holds.{holds, Scorable, Mirrored}
 use Rattle.table_spec.specs.Facts.{holds-facts}
@@ -14,10 +14,10 @@ use Rattle.share_spec.specs.Network.{totalWeight, Watching, Sound}
 use Rattle.share_spec.specs.TableGame.{game-on, own-pos, own-over, over-whole}
 use Rattle.two_way.specs.TwoWay.{networkOf}
 
--- each bus has weight 1
-pub total-weight : (t : List ℕ) → totalWeight (networkOf t) ≡ busCount t
+-- no bus weighs more than it may
+pub total-weight-le : {t : List ℕ} → Scorable t → totalWeight (networkOf t) ≤ busCount t * maxWeight
 unfolding totalWeight
-total-weight t = omega (arith, sumBelow-const 1 (busCount t))
+total-weight-le {t} w = rw (← sumBelow-const maxWeight (busCount t)) (sumBelow-le _ _ (busCount t) (w .weighed))
 
 module _ {t : List ℕ} (w : Scorable t) (m : Mirrored (busCount t) (starts (startsAt t) t) (neighbourNumbers (startsAt t) t)) where
   -- SYMMETRY: v watches just the buses that watch it. Of shares, only this rests on the table being mirrored
