@@ -1,7 +1,7 @@
 -- How the terms of the two ends, added to zeros, make the changes.
 use mathlib.Core.List.{List, [], _∷_, _++_}
 use mathlib.Core.Path.{_≡_, sym, ap, ap₂, _∙_}
-use Prim.Native.Nat.{ℕ, _+_, _^_, _≤_, _<_}
+use Prim.Native.Nat.{ℕ, _+_, _*_, _^_, _≤_, _<_}
 use native.Mathlib.Omega.{arith}
 use lib.IntN.{ℤ}
 use lib.ListN.{length, replicate, drop}
@@ -9,7 +9,8 @@ use Rattle.lists.specs.Lists.{without, at}
 use Rattle.lists.specs.Places.{at-zeros}
 use Rattle.signed.specs.Signed.{difference, signedBelow}
 use Rattle.signed.specs.SignedLists.{signedBelow-same}
-use Rattle.table_spec.specs.Layout.{busCount, row, need, lines}
+use Rattle.table_spec.specs.Limits.{maxWeight}
+use Rattle.table_spec.specs.Layout.{busCount, row, need, weight, lines}
 use Rattle.table_spec.specs.Holds.{Holds}
 use Rattle.table_spec.specs.Lines.{lowerEnd, upperEnd}
 use Rattle.share_spec.specs.TableNetwork.{maxDenominator, Over}
@@ -24,7 +25,7 @@ use Rattle.outage_spec.specs.EndTerms.{endsWith, endsWithout, change-by-ends, e
 use Rattle.outage_spec.specs.StudyDue.{line-named}
 use Rattle.outage.specs.StudyWork.{Room}
 
-pub zeros-room : (n L : ℕ) → L ≤ maxDenominator → Room L (replicate n 0)
+pub zeros-room : (n L : ℕ) → L ≤ maxDenominator → Room (maxWeight * L) (replicate n 0)
 zeros-room n L h v = omega (arith, at-zeros n v)
 
 -- both ends have added their terms to zeros
@@ -52,10 +53,10 @@ module _ {t : List ℕ} (w : Holds t) {k a b : ℕ} (l : k < lines t) (ea : a �
       record { divided = rw (upper-row w line) at (weak .divided b (omega (arith, weak-buses w line, line .inside))); bounded = o .bounded }
 
   -- the sums of the first end have room for those of the second
-  pub with-room : (n : ℕ) {x : List ℕ} → Added (termsFrom (need t a) (row t a) L a) (replicate n 0) x → Room L x
+  pub with-room : (n : ℕ) {x : List ℕ} → Added (termsFrom (weight t a) (need t a) (row t a) L a) (replicate n 0) x → Room (maxWeight * L) x
   with-room n first v = omega (arith, first .each v, at-zeros n v, ends-with-le w line L o weak v, o .bounded)
 
-  pub without-room : (n : ℕ) {x : List ℕ} → Added (termsFrom (need t a) (without (b ∷ []) (row t a)) L a) (replicate n 0) x → Room L x
+  pub without-room : (n : ℕ) {x : List ℕ} → Added (termsFrom (weight t a) (need t a) (without (b ∷ []) (row t a)) L a) (replicate n 0) x → Room (maxWeight * L) x
   without-room n first v = omega (arith, first .each v, at-zeros n v, ends-without-le w line L o weak v, o .bounded)
 
   -- the sums x with the line and y without it

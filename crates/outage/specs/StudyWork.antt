@@ -11,6 +11,6 @@ pub record Above (r : List ℕ) (bus k : ℕ) : Type 0 where
   pub before : (i : ℕ) → i < k → at r i ≤ bus
   pub behind : (i : ℕ) → k ≤ i → i < length r → bus < at r i
 
--- L more fits into each sum
+-- x more fits into each sum
 abbrev pub Room : ℕ → List ℕ → Type 0
-Room L sums = (v : ℕ) → at sums v + L < 2 ^ 64
+Room x sums = (v : ℕ) → at sums v + x < 2 ^ 64

@@ -1,11 +1,12 @@
 // The outage study: what the loss of a line does to the numerator of every bus.
 ghost use mathlib.Core.List.{[], _∷_, _++_};
 ghost use mathlib.Core.Path.{_≡_};
-ghost use Prim.Native.Nat.{ℕ, _^_, _≤_, _<_};
+ghost use Prim.Native.Nat.{ℕ, _*_, _^_, _≤_, _<_};
 ghost use lib.ListN.{length, drop};
 ghost use Rattle.lists.specs.Lists.{without, at, Ascending, WrittenAt};
 ghost use Rattle.signed.specs.Signed.{difference, signedBelow};
-ghost use Rattle.table_spec.specs.Layout.{busCount, row, need, lines};
+ghost use Rattle.table_spec.specs.Limits.{maxWeight};
+ghost use Rattle.table_spec.specs.Layout.{busCount, row, need, weight, lines};
 ghost use Rattle.table_spec.specs.Holds.{Holds};
 ghost use Rattle.table_spec.specs.Lines.{lowerEnd, upperEnd};
 ghost use Rattle.share_spec.specs.TableNetwork.{Over};
@@ -24,6 +25,7 @@ use network::table::bus_count;
 use network::table::lines;
 use network::table::need;
 use network::table::neighbours;
+use network::table::weight;
 use share_terms::add_terms;
 pub use share_terms::denominator;
 use share_terms::unit;
@@ -110,17 +112,26 @@ fn add_end(
 )
     requires { ⌜ Holds (now table) × (end < busCount (now table)) × Over (now table) over ⌝ }
     requires { ⌜ Divided (length (without (other ∷ []) (row (now table) end))) over ⌝ }
-    requires { ⌜ Room over (now before) × (busCount (now table) ≤ length (now before)) ⌝ }
-    requires { ⌜ Room over (now after) × (busCount (now table) ≤ length (now after)) ⌝ }
-    ensures { λ _. ⌜ Added (termsFrom (need (now (table .entry)) end) (row (now (table .entry)) end) over end) (now (before .entry)) (now (before .exit)) ⌝ }
-    ensures { λ _. ⌜ Added (termsFrom (need (now (table .entry)) end) (without (other ∷ []) (row (now (table .entry)) end)) over end) (now (after .entry)) (now (after .exit)) ⌝ }
+    requires { ⌜ Room (maxWeight * over) (now before) × (busCount (now table) ≤ length (now before)) ⌝ }
+    requires { ⌜ Room (maxWeight * over) (now after) × (busCount (now table) ≤ length (now after)) ⌝ }
+    ensures { λ _. ⌜ Added (termsFrom (weight (now (table .entry)) end) (need (now (table .entry)) end) (row (now (table .entry)) end) over end) (now (before .entry)) (now (before .exit)) ⌝ }
+    ensures { λ _. ⌜ Added (termsFrom (weight (now (table .entry)) end) (need (now (table .entry)) end) (without (other ∷ []) (row (now (table .entry)) end)) over end) (now (after .entry)) (now (after .exit)) ⌝ }
 {
     let row = neighbours(table, end);
+    let weight = weight(table, end);
     let need = need(table, end);
-    add_terms(over, need, row, unit(over, row.len()), end, before);
+    add_terms(over, weight, need, row, unit(over, row.len()), end, before);
     let mut left = [0u16; Network::LINES_AT_BUS];
     let many = leave_out(row, other, &mut left);
-    add_terms(over, need, &left[..many], unit(over, many), end, after);
+    add_terms(
+        over,
+        weight,
+        need,
+        &left[..many],
+        unit(over, many),
+        end,
+        after,
+    );
 }
 
 // Stores the sum of each of n buses after the loss less its sum before it.

@@ -7,7 +7,7 @@ use lib.ListN.{length, drop}
 use Rattle.lists.specs.Lists.{without}
 use Rattle.signed.specs.Signed.{signedBelow}
 use Rattle.refusals.specs.Outcomes.{outcome, valuesOr}
-use Rattle.table_spec.specs.Layout.{busCount, needs, row, entries, startsAt, tableOf}
+use Rattle.table_spec.specs.Layout.{busCount, needs, weights, row, entries, startsAt, tableOf}
 use Rattle.table_spec.specs.Lines.{lowerBus, upperBus}
 use Rattle.table_spec.specs.TableOutcomes.{SameNetwork}
 use Rattle.table_spec.specs.BeyondTable.{beyond}
@@ -19,13 +19,14 @@ use Rattle.outage_spec.specs.StudyOutcome.{studyCauses, studyOutcome, st
 use Rattle.outage_spec.specs.StudyDue.{stored-changes}
 
 -- the table without line k, by the sections of the full one
-abbrev made : ℕ → List ℕ → (ℕ → List ℕ) → ℕ → List ℕ
-made n q rows k = tableOf n q (λ i. without (leaving (lowerBus n rows k) (upperBus n rows k) i) (rows i))
+abbrev made : ℕ → List ℕ → List ℕ → (ℕ → List ℕ) → ℕ → List ℕ
+made n q w rows k = tableOf n q w (λ i. without (leaving (lowerBus n rows k) (upperBus n rows k) i) (rows i))
 
 module _ {a b : List ℕ} (w : SameNetwork a b) where
   same-weakened : (k : ℕ) → withoutLine a k ≡ withoutLine b k
   unfolding withoutPair
-  same-weakened k = ap (λ n. made n (needs a) (row a) k) (w .sizes) ∙ ap₂ (λ q rows. made (busCount b) q rows k) (w .needed) (fun-ext (w .rows))
+  same-weakened k =
+      ap₂ (λ n q. made n q (weights a) (row a) k) (w .sizes) (w .needed) ∙ ap₂ (λ v rows. made (busCount b) (needs b) v rows k) (w .weighed) (fun-ext (w .rows))
 
   pub same-change : (k v : ℕ) → change a k v ≡ change b k v
   same-change k v = ap₂ (λ N M. changeOf N M v) (same-network w) (ap networkOf (same-weakened k))

@@ -19,7 +19,7 @@ use Rattle.signed.specs.Signed.{difference, totalBelow}
 use Rattle.signed.specs.Differences.{difference-none, difference-scale, total-difference}
 use Rattle.signed.specs.SignedBits.{mag-le}
 use Rattle.game.specs.Orders.{factorial}
-use Rattle.table_spec.specs.Layout.{busCount, row, need}
+use Rattle.table_spec.specs.Layout.{busCount, row, need, weight}
 use Rattle.table_spec.specs.Holds.{Holds}
 use Rattle.share_spec.specs.Network.{Network, totalWeight, Watching, WholeOver}
 use Rattle.share_spec.specs.Formula.{numeratorOver}
@@ -52,9 +52,9 @@ module _ {N M : Network} (w : Watching N) (x : Watching M) (same : M .buses ≡ 
       ∙ sym (difference-scale L (gains M v) (gains N v))
 
 -- a bus that is neither u nor in u's row gets nothing from u
-nothing : (k : ℕ) (r : List ℕ) (L u v : ℕ) → (v ≡ u → ⊥) → count v r ≡ 0 → termsFrom k r L u v ≡ 0
+nothing : (m k : ℕ) (r : List ℕ) (L u v : ℕ) → (v ≡ u → ⊥) → count v r ≡ 0 → termsFrom m k r L u v ≡ 0
 unfolding termsFrom
-nothing k r L u v p q = rw (ne-eqb v u p, q) (omega arith)
+nothing m k r L u v p q = rw (ne-eqb v u p, q) (omega arith)
 
 module _ {t : List ℕ} (w : Holds t) {a b : ℕ} (line : Line t a b) (L : ℕ) where
   -- A BUS THAT IS NEITHER AN END NOR A NEIGHBOUR OF AN END KEEPS ITS NUMERATOR
@@ -65,12 +65,12 @@ module _ {t : List ℕ} (w : Holds t) {a b : ℕ} (line : Line t a b) (L : ℕ) 
       change-by-ends w line L v l
       ∙ difference-none _ _ (omega (
         arith,
-        nothing (need t a) (row t a) L a v (f .not-lower) (has-none v (row t a) (f .not-by-lower)),
-        nothing (need t b) (row t b) L b v (f .not-upper) (has-none v (row t b) (f .not-by-upper)),
-        nothing (need t a) (without (b ∷ []) (row t a)) L a v (f .not-lower) (still a b (f .not-by-lower)),
-        nothing (need t b) (without (a ∷ []) (row t b)) L b v (f .not-upper) (still b a (f .not-by-upper)),
+        nothing (weight t a) (need t a) (row t a) L a v (f .not-lower) (has-none v (row t a) (f .not-by-lower)),
+        nothing (weight t b) (need t b) (row t b) L b v (f .not-upper) (has-none v (row t b) (f .not-by-upper)),
+        nothing (weight t a) (need t a) (without (b ∷ []) (row t a)) L a v (f .not-lower) (still a b (f .not-by-lower)),
+        nothing (weight t b) (need t b) (without (a ∷ []) (row t b)) L b v (f .not-upper) (still b a (f .not-by-upper)),
       ))
 
-  -- A CHANGE FITS: each end moves no more than L
+  -- A CHANGE FITS: each end moves no more than its weight times L
   pub change-fits : Over t L → Over (withoutPair t a b) L → (v : ℕ) → v < busCount t → SFits w64 (changeOver (networkOf t) (networkOf (withoutPair t a b)) L v)
   change-fits o p v l = record { sfits = omega (arith, mag-le (changeOver (networkOf t) (networkOf (withoutPair t a b)) L v), change-le w line L o p v l, o .bounded) }

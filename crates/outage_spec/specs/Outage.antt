@@ -7,7 +7,7 @@ use lib.Dec.{eqb}
 use lib.IntN.{ℤ}
 use Rattle.lists.specs.Lists.{without}
 use Rattle.signed.specs.Signed.{difference}
-use Rattle.table_spec.specs.Layout.{busCount, needs, row, tableOf}
+use Rattle.table_spec.specs.Layout.{busCount, needs, weights, row, tableOf}
 use Rattle.table_spec.specs.Lines.{lowerEnd, upperEnd}
 use Rattle.share_spec.specs.Network.{Network, denominator}
 use Rattle.share_spec.specs.Formula.{numeratorOver}
@@ -17,10 +17,10 @@ use Rattle.two_way.specs.TwoWay.{networkOf}
 abbrev pub leaving : ℕ → ℕ → ℕ → List ℕ
 leaving a b i = cond (eqb i a) (b ∷ []) (cond (eqb i b) (a ∷ []) [])
 
--- the table without that line: the same buses and needs, and the two ends out of each other's rows. A row lists a neighbour once, so that parallel
+-- the table without that line: the same buses, needs and weights, and the two ends out of each other's rows. A row lists a neighbour once, so that parallel
 -- circuits go out together
 unfoldable pub withoutPair : List ℕ → ℕ → ℕ → List ℕ
-withoutPair t a b = tableOf (busCount t) (needs t) (λ i. without (leaving a b i) (row t i))
+withoutPair t a b = tableOf (busCount t) (needs t) (weights t) (λ i. without (leaving a b i) (row t i))
 
 -- without line k
 abbrev pub withoutLine : List ℕ → ℕ → List ℕ

@@ -15,6 +15,7 @@ use Rattle.refusals.specs.Outcomes.{Outcome, gives, refuses, _⇒_}
 use Rattle.refusals.specs.Due.{Due, both, accept, stop, pass, below, not-below}
 use Rattle.game.specs.Orders.{factorial}
 use Rattle.game.specs.EveryOrder.{every-order-once}
+use Rattle.table_spec.specs.Limits.{maxWeight}
 use Rattle.table_spec.specs.Layout.{busCount, row, lines}
 use Rattle.table_spec.specs.Holds.{holds, Holds}
 use Rattle.table_spec.specs.Facts.{holds-facts}
@@ -26,10 +27,10 @@ use Rattle.share_spec.specs.TableNetwork.{maxDenominator, Over}
 use Rattle.share_spec.specs.Denominator.{common-denominator}
 use Rattle.share_spec.specs.TableGame.{own-over, over-whole}
 use Rattle.two_way.specs.TwoWay.{networkOf}
-use Rattle.two_way.specs.TwoWaySound.{total-weight, watching}
+use Rattle.two_way.specs.TwoWaySound.{watching}
 use Rattle.outage_spec.specs.Outage.{withoutLine, changeOver, change}
 use Rattle.outage_spec.specs.StudyOutcome.{studyCauses, studyOutcome, storedChanges, changesAfter, Line, AllStudied}
-use Rattle.outage_spec.specs.WeakenedTable.{weak-buses, weak-scored, line-lost, weak-over}
+use Rattle.outage_spec.specs.WeakenedTable.{weak-buses, same-weight, weak-scored, line-lost, weak-over}
 use Rattle.outage_spec.specs.EndTerms.{change-le}
 use Rattle.outage_spec.specs.ChangeClaims.{changes-none, change-fair, change-far}
 
@@ -85,8 +86,8 @@ module _ (t : List ℕ) (h : holds t ≡ true) (k : ℕ) (b : k < lines t) where
   pub line-over : {L : ℕ} → L ≡ denominator (networkOf t) → Over t L × Over (withoutLine t k) L
   line-over e = (own-over (held .shape) e, weak-over held (line-named held k b) e)
 
-  -- NO CHANGE IS ABOVE 2 L OR BELOW -2 L
-  pub change-small : (v : ℕ) → v < busCount t → natAbs (change t k v) ≤ 2 * maxDenominator
+  -- NO CHANGE IS ABOVE 2 L TIMES THE HIGHEST WEIGHT, up or down
+  pub change-small : (v : ℕ) → v < busCount t → natAbs (change t k v) ≤ 2 * maxWeight * maxDenominator
   change-small v l =
       let o = line-over refl in
       omega (arith, change-le held (line-named held k b) (denominator (networkOf t)) (o .0) (o .1) v l, o .0 .bounded)
@@ -125,6 +126,6 @@ all-studied t k x {after = after} e f h b l =
       every = every-order-once (busCount t);
       fair = λ v m. ap (λ z. pos (factorial (busCount t)) *ℤ z) (entry v m) ∙ change-fair full left n L whole still v m;
       none = totalBelow-same (signedAt after) (change t k) (busCount t) entry
-          ∙ changes-none full left n L whole still (total-weight (withoutLine t k) ∙ n ∙ sym (total-weight t));
+          ∙ changes-none full left n L whole still (same-weight w line);
       far = λ v m r. entry v m ∙ change-far w line L v m r;
     }

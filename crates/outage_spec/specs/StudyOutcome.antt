@@ -14,7 +14,7 @@ use Rattle.refusals.specs.declared.Refusal.the-variants.{NumeratorsTooShort, No
 use Rattle.refusals.specs.Outcomes.{Outcome, gives, Cause, _⇒_, outcome, valuesOr}
 use Rattle.game.specs.Orders.{orders, factorial, EveryOrderOnce}
 use Rattle.game.specs.Game.{gain}
-use Rattle.table_spec.specs.Layout.{busCount, row, need, starts, neighbourNumbers, startsAt, lines}
+use Rattle.table_spec.specs.Layout.{busCount, row, need, weight, starts, neighbourNumbers, startsAt, lines}
 use Rattle.table_spec.specs.Holds.{holds, Scorable, Mirrored}
 use Rattle.table_spec.specs.Lines.{lowerEnd, upperEnd}
 use Rattle.table_spec.specs.TableOutcomes.{onTable}
@@ -64,11 +64,12 @@ pub record CanBeScored (t : List ℕ) : Type 0 where
   pub shape : Scorable t
   pub mirrored : Mirrored (busCount t) (starts (startsAt t) t) (neighbourNumbers (startsAt t) t)
 
--- s is t without the line from a to b: the same buses and needs, and the same neighbours, but that the two ends are none of one another
+-- s is t without the line from a to b: the same buses, needs and weights, and the same neighbours, but that the two ends are none of one another
 pub record LineLost (t : List ℕ) (a b : ℕ) (s : List ℕ) : Type 0 where
   pub scored : CanBeScored s
   pub buses : busCount s ≡ busCount t
   pub needs : (i : ℕ) → need s i ≡ need t i
+  pub weights : (i : ℕ) → weight s i ≡ weight t i
   pub neighbours : (i j : ℕ) → i < busCount t → has j (row s i) ≡ (has j (row t i) && not ((eqb i a && eqb j b) || (eqb i b && eqb j a)))
 
 -- the answer is the L of the full network, no refusal; line k is a line, and the network without it can be scored; each bus's entry, times n!, is L

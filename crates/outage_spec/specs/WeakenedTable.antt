@@ -8,16 +8,19 @@ use borrow.Author.Tests.{eqb-true, ne-eqb}
 use lib.Dec.{eqb}
 use lib.ListN.{length}
 use Rattle.lists.specs.Lists.{has, without, at}
+use Rattle.lists.specs.Below.{sumBelow}
 use Rattle.lists.specs.Tests.{split, eqb-self, never-both}
 use Rattle.lists.specs.Without.{without-none, has-one, has-without, length-without-le}
 use Rattle.fraction.specs.Divisors.{lcmAll}
-use Rattle.table_spec.specs.Layout.{busCount, needs, row, need, degree}
+use Rattle.table_spec.specs.Layout.{busCount, needs, weights, row, degree, need, weight}
 use Rattle.table_spec.specs.Holds.{Holds}
-use Rattle.table_spec.specs.Rows.{length-needs, valid-without, row-valid, degree-le}
+use Rattle.table_spec.specs.Rows.{length-needs, length-weights, valid-without, row-valid, degree-le}
 use Rattle.table_spec.specs.LinePairs.{mirror}
-use Rattle.table_spec.specs.Laid.{made-busCount, made-needs, made-row, made-scorable, made-mirrored}
+use Rattle.table_spec.specs.Laid.{made-busCount, made-needs, made-weights, made-row, made-scorable, made-mirrored}
+use Rattle.share_spec.specs.Network.{totalWeight}
 use Rattle.share_spec.specs.TableNetwork.{divisorsOf, Over}
 use Rattle.share_spec.specs.TableGame.{fewer-divided, own-over}
+use Rattle.two_way.specs.TwoWay.{networkOf}
 use Rattle.outage_spec.specs.Outage.{leaving, withoutPair}
 use Rattle.outage_spec.specs.StudyOutcome.{Line, CanBeScored, LineLost}
 
@@ -82,20 +85,34 @@ module _ {t : List ℕ} (w : Holds t) {a b : ℕ} (line : Line t a b) where
   long : length (needs t) ≡ n
   long = length-needs t (w .shape .complete)
 
+  wide : length (weights t) ≡ n
+  wide = length-weights t (w .shape .complete)
+
   pub weak-buses : busCount (withoutPair t a b) ≡ n
   unfolding withoutPair
-  weak-buses = rw append-nil at (made-busCount n (needs t) rows [] long)
+  weak-buses = rw append-nil at (made-busCount n (needs t) (weights t) rows [] long wide)
 
   weak-needs : needs (withoutPair t a b) ≡ needs t
   unfolding withoutPair
-  weak-needs = rw append-nil at (made-needs n (needs t) rows [] long)
+  weak-needs = rw append-nil at (made-needs n (needs t) (weights t) rows [] long wide)
 
   pub weak-need : (i : ℕ) → need (withoutPair t a b) i ≡ need t i
   weak-need i = ap (λ q. at q i) weak-needs
 
+  weak-weights : weights (withoutPair t a b) ≡ weights t
+  unfolding withoutPair
+  weak-weights = rw append-nil at (made-weights n (needs t) (weights t) rows [] long wide)
+
+  pub weak-weight : (i : ℕ) → weight (withoutPair t a b) i ≡ weight t i
+  weak-weight i = ap (λ v. at v i) weak-weights
+
+  pub same-weight : totalWeight (networkOf (withoutPair t a b)) ≡ totalWeight (networkOf t)
+  unfolding totalWeight
+  same-weight = ap₂ (λ n v. sumBelow n (at v)) weak-buses weak-weights
+
   weak-row : (i : ℕ) → i < n → row (withoutPair t a b) i ≡ rows i
   unfolding withoutPair
-  weak-row i l = rw append-nil at (made-row n (needs t) rows [] long i l)
+  weak-row i l = rw append-nil at (made-row n (needs t) (weights t) rows [] long wide i l)
 
   -- an end's row is without the other end, and every other row is as it was
   pub lower-row : row (withoutPair t a b) a ≡ without (b ∷ []) (row t a)
@@ -123,9 +140,9 @@ module _ {t : List ℕ} (w : Holds t) {a b : ℕ} (line : Line t a b) where
       let c = w .shape .complete in
       record {
         shape = rw append-nil at
-            (made-scorable n (needs t) rows [] long (c .least) (c .most) (w .shape .needed) (λ i l. valid-without (leaving a b i) (row-valid (w .shape) i l))
+            (made-scorable n (needs t) (weights t) rows [] long wide (c .least) (c .most) (w .shape .needed) (w .shape .weighed) (λ i l. valid-without (leaving a b i) (row-valid (w .shape) i l))
             (λ i l. omega (arith, length-without-le (leaving a b i) (row t i), degree-le (w .shape) i l)));
-        mirrored = rw append-nil at (made-mirrored n (needs t) rows [] long mirrored-rows);
+        mirrored = rw append-nil at (made-mirrored n (needs t) (weights t) rows [] long wide mirrored-rows);
       }
 
   pub line-lost : LineLost t a b (withoutPair t a b)
@@ -133,6 +150,7 @@ module _ {t : List ℕ} (w : Holds t) {a b : ℕ} (line : Line t a b) where
     scored = weak-scored;
     buses = weak-buses;
     needs = weak-need;
+    weights = weak-weight;
     neighbours = λ i j l.
         ap (has j) (weak-row i l)
         ∙ has-without j (leaving a b i) (row t i)

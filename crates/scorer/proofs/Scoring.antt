@@ -2,7 +2,7 @@
 use mathlib.Core.List.{List}
 use mathlib.Core.Path.{_≡_, ap, subst, _∙_}
 use Prim.Native.Nat.{ℕ, _+_, _*_, _^_, _≤_, _<_}
-use native.Mathlib.Nat.{mul-le-mul, mul-le-mul-right}
+use native.Mathlib.Nat.{mul-le-mul}
 use native.Mathlib.Omega.{arith}
 use lib.ListN.{length, replicate}
 use Rattle.lists.specs.Lists.{_∈_, at, put}
@@ -14,8 +14,8 @@ use Rattle.table_spec.specs.Limits.{maxBuses, maxWeight}
 use Rattle.table_spec.specs.Layout.{busCount, row, need, weight}
 use Rattle.table_spec.specs.Holds.{Scorable}
 use Rattle.share_spec.specs.TableNetwork.{gameOf, maxDenominator, Over}
-use Rattle.share_spec.specs.TableGame.{game-on, term-whole}
-use Rattle.share_spec.specs.TermsGiven.{termTo, termsFrom, term-by-row, terms-le, givenBy, all-given, none-given}
+use Rattle.share_spec.specs.TableGame.{game-on}
+use Rattle.share_spec.specs.TermsGiven.{termTo, termsFrom, term-by-row, given-le, givenBy, all-given, none-given}
 use Rattle.share_terms.specs.Added.{Added}
 use Rattle.share_terms.specs.Adding.{added-same, added-both, cleared-long, cleared-zero, added-zeros}
 use Rattle.share_terms.specs.RowTerms.{added-by, row-inside}
@@ -24,15 +24,6 @@ use Rattle.scorer.specs.ScorerWork.{Room}
 -- ---- what one bus gives
 
 module _ {t : List ℕ} (w : Scorable t) {L : ℕ} (o : Over t L) {bus : ℕ} (b : bus < busCount t) where
-  given-le : (v : ℕ) → termTo (gameOf t) L bus v ≤ maxWeight * L
-  given-le v =
-      omega (
-        arith,
-        term-by-row t L bus v,
-        terms-le (weight t bus) (need t bus) (row t bus) L bus v (term-whole w o bus b),
-        mul-le-mul-right {m = weight t bus} {n = maxWeight} L (w .weighed bus b),
-      )
-
   -- its row r, as code has it
   module _ {r : List ℕ} (er : r ≡ row t bus) where
     -- the numerators x have room for its terms
@@ -52,7 +43,7 @@ bus-added g L m a b = added-both a b (λ v. sumBelow-next m (λ u. termTo g L u 
 module _ {t : List ℕ} (w : Scorable t) {L : ℕ} (o : Over t L) where
   -- the first m buses give at most the highest weight times L each
   given-by-le : (m v : ℕ) → m ≤ busCount t → givenBy (gameOf t) L m v ≤ m * (maxWeight * L)
-  given-by-le m v h = rw (← sumBelow-const (maxWeight * L) m) (sumBelow-le _ _ m (λ u b. given-le w o {bus = u} (omega arith) v))
+  given-by-le m v h = rw (← sumBelow-const (maxWeight * L) m) (sumBelow-le _ _ m (λ u b. given-le w o u v (omega arith)))
 
   -- the first n entries of s were cleared, which left z, and then the first m buses added their terms, which left u
   module _ (s : List ℕ) {n : ℕ} {z : List ℕ} (en : n ≡ busCount t) (h : n ≤ length s) (cleared : z ≡ put s 0 (replicate n 0))

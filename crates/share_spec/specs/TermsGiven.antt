@@ -4,7 +4,7 @@ use mathlib.Core.Bool.{cond}
 use mathlib.Core.List.{List}
 use mathlib.Core.Path.{_≡_, refl, sym, ap, _∙_}
 use Prim.Native.Nat.{ℕ, _+_, _*_, _≤_, _<_}
-use native.Mathlib.Nat.{mul-zero, mul-le-mul-left}
+use native.Mathlib.Nat.{mul-zero, mul-le-mul-left, mul-le-mul-right}
 use native.Mathlib.Omega.{arith}
 use borrow.Author.Tests.{lt-ltb, ne-eqb}
 use lib.Dec.{eqb}
@@ -17,10 +17,13 @@ use Rattle.lists.specs.Counts.{has-in, has-none, count-le, has-once}
 use Rattle.lists.specs.SumsBelow.{sumBy-range, sumBelow-same, sumBelow-add, sumBelow-const, sumBelow-single, in-range, of-range}
 use Rattle.game.specs.Game.{Game, ownTerm, neighbourTerm, own, neighbour, GameOn, Whole, numerator as formula}
 use Rattle.game.specs.Terms.{terms-whole}
-use Rattle.table_spec.specs.Layout.{row, need, weight}
+use Rattle.table_spec.specs.Limits.{maxWeight}
+use Rattle.table_spec.specs.Layout.{busCount, row, need, weight}
+use Rattle.table_spec.specs.Holds.{Scorable}
 use Rattle.share_spec.specs.Network.{Network, Watching}
 use Rattle.share_spec.specs.Formula.{numeratorOver}
-use Rattle.share_spec.specs.TableNetwork.{gameOf}
+use Rattle.share_spec.specs.TableNetwork.{gameOf, Over}
+use Rattle.share_spec.specs.TableGame.{term-whole}
 use Rattle.share_spec.specs.FairFormula.{as-game}
 
 -- what bus u gives to the numerator of bus v, over L
@@ -44,6 +47,16 @@ terms-le w k r L u v h =
       ap (λ x. w * x) (terms-whole k (length r) L h),
       mul-le-mul-left (w * ownTerm k (length r) L) (indicator-le (eqb v u)),
       mul-le-mul-left (w * neighbourTerm k (length r) L) (count-le v r),
+    )
+
+-- nor, where a table can be scored, more than L times the highest weight
+pub given-le : {t : List ℕ} → Scorable t → {L : ℕ} → Over t L → (u v : ℕ) → u < busCount t → termTo (gameOf t) L u v ≤ maxWeight * L
+given-le {t} w {L} o u v b =
+    omega (
+      arith,
+      term-by-row t L u v,
+      terms-le (weight t u) (need t u) (row t u) L u v (term-whole w o u b),
+      mul-le-mul-right {m = weight t u} {n = maxWeight} L (w .weighed u b),
     )
 
 -- what the first m buses give to the numerator of bus v

@@ -3,13 +3,13 @@ use borrow.Author.Needs.{needs}
 use native.Mathlib.Omega.{arith}
 use mathlib.Core.List.{[], _∷_}
 use mathlib.Core.Path.{_≡_, sym}
-use Prim.Native.Nat.{_≤_}
+use Prim.Native.Nat.{_*_, _≤_}
 use lib.ListN.{length, take}
 use lib.Seq.{length-take-le}
 use Rattle.lists.specs.Lists.{without}
 use Rattle.lists.specs.Without.{length-without-le}
 use Rattle.lists.specs.Writes.{written-front}
-use Rattle.table_spec.specs.Limits.{maxDegree}
+use Rattle.table_spec.specs.Limits.{maxDegree, maxWeight}
 use Rattle.share_terms.specs.RowTerms.{added-by, row-short, terms-asked}
 use Rattle.outage.proofs.EndRows.{end-room, left-is, left-room, left-asked}
 use Rattle.outage.proofs.add_end.Statement.{statement}
@@ -18,7 +18,7 @@ use Rattle.outage.proofs.add_end.Tie as tie
 -- the row of the end, and its need
 module _ (c : tie.After-need) where
   abbrev listed : tie.After-neighbours
-  listed = c .before
+  listed = c .before .before
 
   abbrev start : tie.Start
   start = listed .before .before .before .before
@@ -38,7 +38,7 @@ add-terms-requires c κs =
     let p = s .pre .1 .1 .0 in
     let er = listed n .neighbours .ensures in
     let ek = n .need .ensures in
-    (terms-asked (w .shape) b er ek (s .pre .0 .2) (c .before .unit .ensures), end-room w b er (s .args .over) (s .args .before .now) (p .0) (p .1))
+    (terms-asked (w .shape) b er (n .before .weight .ensures .1) ek (s .pre .0 .2) (c .before .unit .ensures), end-room w b er (maxWeight * s .args .over) (s .args .before .now) (p .0) (p .1))
 
 leave-out-requires : tie.Need-leave-out-requires
 leave-out-requires c κs = short (c .before .before .before .before .before .before)
@@ -77,8 +77,8 @@ add-terms-requires-2 c κs =
     let p = s .pre .1 .1 .1 in
     let er = listed n .neighbours .ensures in
     let ek = n .need .ensures in (
-      left-asked w b er (s .args .other) (left-row m) ek (s .pre .1 .0) (left-long m) (c .before .unit2 .ensures),
-      left-room w b er (s .args .other) (left-row m) (s .args .over) (s .args .after .now) (p .0) (p .1),
+      left-asked w b er (s .args .other) (left-row m) (n .before .weight .ensures .1) ek (s .pre .1 .0) (left-long m) (c .before .unit2 .ensures),
+      left-room w b er (s .args .other) (left-row m) (maxWeight * s .args .over) (s .args .after .now) (p .0) (p .1),
     )
 
 returns : tie.Need-returns
@@ -90,14 +90,15 @@ returns c =
     let b = s .pre .0 .1 in
     let er = listed n .neighbours .ensures in
     let ek = n .need .ensures in (
-      added-by (s .args .over) (s .args .end) ek er (m .before .before .before .before .add-terms .ensures),
-      added-by (s .args .over) (s .args .end) ek (left-is w b er (s .args .other) (left-row m)) (c .before .before .add-terms2 .ensures),
+      added-by (s .args .over) (s .args .end) (n .before .weight .ensures .0) ek er (m .before .before .before .before .add-terms .ensures),
+      added-by (s .args .over) (s .args .end) (n .before .weight .ensures .0) ek (left-is w b er (s .args .other) (left-row m)) (c .before .before .add-terms2 .ensures),
     )
 
 pub add-end-spec : {M : Type 1} → statement M
 add-end-spec =
     tie.close
     (tie.spec
+    (λ c κs. search needs)
     (λ c κs. search needs)
     (λ c κs. search needs)
     unit-requires
