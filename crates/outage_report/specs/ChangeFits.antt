@@ -14,14 +14,14 @@ use Rattle.signed.specs.Signed.{signedAt}
 use Rattle.signed.specs.SignedBits.{mag-le}
 use Rattle.text.specs.Decimal.{decimal-le}
 use Rattle.text.specs.SignedDecimal.{signedDecimal-le}
-use Rattle.table_spec.specs.Limits.{maxBuses}
+use Rattle.table_spec.specs.Limits.{maxBuses, maxWeight}
 use Rattle.share_spec.specs.TableNetwork.{maxDenominator}
 use Rattle.outage_report.specs.OutageReport.{lineOf, linesOf}
 use Rattle.outage_report.specs.ChangeRoom.{Small, longestChange, longestChanges}
 
-line-fits : (v : ℕ) (z : ℤ) → v < maxBuses → natAbs z ≤ 2 * maxDenominator → length (lineOf v z) ≤ longestChange
+line-fits : (v : ℕ) (z : ℤ) → v < maxBuses → natAbs z ≤ 2 * maxWeight * maxDenominator → length (lineOf v z) ≤ longestChange
 line-fits v z b h =
-    simp length-append (omega (arith, decimal-le 2 v (omega arith), signedDecimal-le 10 z (omega arith)))
+    simp length-append (omega (arith, decimal-le 2 v (omega arith), signedDecimal-le 13 z (omega arith)))
 
 -- THEIR LINES FIT
 pub lines-fit : {changes : List ℤ} → Small changes → length (linesOf changes) ≤ longestChanges

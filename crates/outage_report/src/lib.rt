@@ -20,7 +20,7 @@ use text::fill_template;
 use text::signed_decimal;
 
 // Bytes that are enough for the line of a bus.
-pub const LONGEST_CHANGE: usize = 17;
+pub const LONGEST_CHANGE: usize = 20;
 
 // Bytes that are enough for the lines of every network.
 pub const LONGEST_CHANGES: usize = LONGEST_CHANGE * Network::BUSES;

@@ -2,7 +2,7 @@
 use mathlib.Core.List.{List, [], _∷_}
 use mathlib.Core.Path.{_≡_, refl}
 use Prim.Native.Nat.{ℕ, zero, suc, _+_, _*_, _/_, _≤_, _<_}
-use native.Mathlib.Nat.{le-trans, mul-le-mul, div-le-self}
+use native.Mathlib.Nat.{le-trans, mul-le-mul, mul-le-mul-right, div-le-self}
 use native.Mathlib.Omega.{arith}
 use lib.ListN.{length, length-append}
 use Rattle.lists.specs.Lists.{at}
@@ -10,7 +10,7 @@ use Rattle.lists.specs.Loops.{sumBelow-next}
 use Rattle.lists.specs.SumsBelow.{sumBelow-grows}
 use Rattle.text.specs.Text.{decimal, filled}
 use Rattle.text.specs.Decimal.{decimal-le}
-use Rattle.table_spec.specs.Limits.{maxBuses}
+use Rattle.table_spec.specs.Limits.{maxBuses, maxWeight}
 use Rattle.table_spec.specs.Holds.{Holds}
 use Rattle.table_spec.specs.LineCount.{lines-le}
 use Rattle.table_spec.specs.Rows.{degree-le}
@@ -21,7 +21,7 @@ use Rattle.share_spec.specs.TableNetwork.{maxDenominator}
 use Rattle.share_spec.specs.FairFormula.{whole}
 use Rattle.share_spec.specs.TableGame.{own-over}
 use Rattle.two_way.specs.TwoWay.{networkOf}
-use Rattle.two_way.specs.TwoWaySound.{total-weight, sound}
+use Rattle.two_way.specs.TwoWaySound.{total-weight-le, sound}
 use Rattle.sheet.specs.Sheet.{headingForm, busForm, sheetLine}
 use Rattle.sheet.specs.LineRoom.{longestLine, Short}
 
@@ -37,7 +37,7 @@ bus-length v k d x p q = simp length-append (omega arith)
 
 module _ {N : Network} (w : Short N) where
   -- a share is no larger than all of them, which are L times the total weight
-  numerator-le : (v : ℕ) → v < N .buses → numerator N v ≤ maxDenominator * maxBuses
+  numerator-le : (v : ℕ) → v < N .buses → numerator N v ≤ maxDenominator * (maxBuses * maxWeight)
   numerator-le v b =
       let next : v + 1 ≤ N .buses = omega arith in
       le-trans (omega (arith, sumBelow-grows (numerator N) (N .buses) next, sumBelow-next v (numerator N), whole (w .sound))) (mul-le-mul (w .over) (w .totalWeight))
@@ -55,8 +55,8 @@ module _ {N : Network} (w : Short N) where
         decimal-le 2 v (omega (arith, w .buses)),
         decimal-le 1 (N .needColumn v) (omega (arith, w .needColumn v b)),
         decimal-le 1 (N .degreeColumn v) (omega (arith, w .degreeColumn v b)),
-        decimal-le 12 x (omega (arith, most)),
-        decimal-le 12 (x / g) (omega (arith, div-le-self x g, most)),
+        decimal-le 15 x (omega (arith, most)),
+        decimal-le 15 (x / g) (omega (arith, div-le-self x g, most)),
         decimal-le 9 (L / g) (omega (arith, div-le-self L g, bounded)),
       )
 
@@ -81,5 +81,5 @@ held-short {t} w = record {
   needColumn = w .limited;
   degreeColumn = degree-le (w .shape);
   over = own-over (w .shape) refl .bounded;
-  totalWeight = omega (arith, total-weight t, w .shape .complete .most);
+  totalWeight = le-trans (total-weight-le (w .shape)) (mul-le-mul-right maxWeight (w .shape .complete .most));
 }

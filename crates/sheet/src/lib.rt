@@ -26,7 +26,7 @@ use table_check::holds;
 use text::fill_template;
 
 // Bytes that are enough for every line of a sheet.
-pub const LONGEST_LINE: usize = 49;
+pub const LONGEST_LINE: usize = 55;
 
 // Writes the heading, and gives the place behind it.
 pub fn write_heading(table: &[u16], over: u64, out: &mut [u8], at: usize) -> usize
