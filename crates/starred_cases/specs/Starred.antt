@@ -31,7 +31,7 @@ andThen (refuses number) next = refuses number
 
 -- what is lent, enough for the largest of these networks: three buses, three lines
 unfoldable pub lentTable : List ℕ
-lentTable = replicate 14 0
+lentTable = replicate 17 0
 
 unfoldable pub lentNumerators : List ℕ
 lentNumerators = replicate 3 0

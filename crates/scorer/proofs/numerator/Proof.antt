@@ -45,7 +45,15 @@ neighbour-is c =
     neighbour-in (s .pre .0) (s .pre .2) (s .pre .1) (c .before .before .before .before .before .neighbours .ensures) (c .before .loop-test .taken) (c .entry .ensures .0)
 
 given-requires-2 : tie.Need-given-requires-2 Inv-loop μ-loop
-given-requires-2 c κs = let s = start (c .before) in (s .pre .0, neighbour-is (c .before), s .pre .2)
+given-requires-2 c κs = let s = start (c .before) in (s .pre .0, omega (arith, neighbour-is (c .before), s .pre .1), s .pre .2)
+
+loop-again : tie.Need-loop-again Inv-loop μ-loop
+loop-again c =
+    let p = c .before .before in
+    let s = start p in (
+      search needs,
+      sum-next (s .pre .0) (s .pre .2) (s .pre .1) (p .before .before .before .before .before .neighbours .ensures) (p .before .loop-test .taken) (p .entry .ensures .0) (c .given2 .ensures) (c .before .weight2 .ensures .0) (p .before .before .loop .inv .1),
+    )
 
 mul-sum-3 : tie.Need-mul-sum-3 Inv-loop μ-loop
 mul-sum-3 c =
@@ -63,14 +71,6 @@ add-sum c =
     omega (
       arith,
       sum-fits (s .pre .0) (s .pre .2) (s .pre .1) (p .before .before .before .before .before .neighbours .ensures) (p .before .loop-test .taken) (p .entry .ensures .0) (c .given2 .ensures) (c .before .weight2 .ensures .0) (p .before .before .loop .inv .1),
-    )
-
-loop-again : tie.Need-loop-again Inv-loop μ-loop
-loop-again c =
-    let p = c .before .before in
-    let s = start p in (
-      search needs,
-      sum-next (s .pre .0) (s .pre .2) (s .pre .1) (p .before .before .before .before .before .neighbours .ensures) (p .before .loop-test .taken) (p .entry .ensures .0) (c .given2 .ensures) (c .before .weight2 .ensures .0) (p .before .before .loop .inv .1),
     )
 
 returns : tie.Need-returns Inv-loop μ-loop
@@ -92,7 +92,7 @@ numerator-spec =
     mul-sum-2
     loop-holds
     (λ c κs. search needs)
-    (λ c κs. (start c .pre .0, neighbour-is c))
+    (λ c κs. (start c .pre .0, omega (arith, neighbour-is c, start c .pre .1)))
     given-requires-2
     mul-sum-3
     add-sum
