@@ -2,6 +2,7 @@
 pub mod FileBytes
 pub mod Sections
 pub mod SectionExamples
+pub mod WeightBytes
 pub mod SoundSections
 pub mod RecordOrder
 pub mod Records

@@ -1,17 +1,17 @@
--- Which files have sound sections: refusals 1 to 5, in file order, and the test of record ends that 6 rests on.
+-- Which files have sound sections: refusals 1 to 5, 19 and 20, in file order, and the test of record ends that 6 rests on.
 -- Definitions only.
-use mathlib.Core.Bool.{Bool, not, _&&_}
+use mathlib.Core.Bool.{Bool, cond, not, _&&_}
 use mathlib.Core.List.{List, [], _∷_, _++_}
 use Prim.Native.Nat.{ℕ}
 use lib.Dec.{ltb, eqb}
 use lib.ListN.{length}
 use Rattle.lists.specs.Below.{allBelow}
-use Rattle.refusals.specs.declared.Refusal.the-variants.{FileTooShort, BusCount, Need, LineCount, FileTooLong}
+use Rattle.refusals.specs.declared.Refusal.the-variants.{FileTooShort, BusCount, Need, LineCount, FileTooLong, WeightCount, Weight}
 use Rattle.refusals.specs.Outcomes.{Outcome, Cause, _⇒_, outcome}
 use Rattle.table_spec.specs.Limits.{maxBuses, maxLines}
-use Rattle.table_spec.specs.Holds.{within, needsInRange}
+use Rattle.table_spec.specs.Holds.{within, needsInRange, weightsInRange}
 use Rattle.network.specs.declared.Counts.{Counts}
-use Rattle.file_spec.specs.FileBytes.{fileBusCount, needsEnd, needBytes, fileLineCount, recordsAt, fileEnd, firstEnd, secondEnd}
+use Rattle.file_spec.specs.FileBytes.{fileBusCount, needsEnd, needBytes, fileLineCount, recordsAt, recordsEnd, firstEnd, secondEnd, fileWeightCount, weightsAt, weightsEnd, fileWeights}
 
 -- the file ends before place i
 unfoldable pub endsBefore : ℕ → List ℕ → Bool
@@ -36,11 +36,21 @@ lineCountCauses f = (endsBefore (recordsAt f) f ⇒ FileTooShort) ∷ (not (with
 
 -- records complete
 abbrev pub missingCauses : List ℕ → List Cause
-missingCauses f = (endsBefore (fileEnd f) f ⇒ FileTooShort) ∷ []
+missingCauses f = (endsBefore (recordsEnd f) f ⇒ FileTooShort) ∷ []
 
--- end of file
+-- weight count complete, n again, weights complete, their range, end of file
+abbrev pub weightSectionCauses : List ℕ → List Cause
+weightSectionCauses f =
+    (endsBefore (weightsAt f) f ⇒ FileTooShort)
+    ∷ (not (eqb (fileWeightCount f) (fileBusCount f)) ⇒ WeightCount)
+    ∷ (endsBefore (weightsEnd f) f ⇒ FileTooShort)
+    ∷ (not (weightsInRange (fileWeights f)) ⇒ Weight)
+    ∷ (goesOn (weightsEnd f) f ⇒ FileTooLong)
+    ∷ []
+
+-- so is judged what follows the records, if anything does
 abbrev pub endCauses : List ℕ → List Cause
-endCauses f = (goesOn (fileEnd f) f ⇒ FileTooLong) ∷ []
+endCauses f = cond (goesOn (recordsEnd f) f) (weightSectionCauses f) []
 
 -- behind the needs; and all, in file order
 abbrev pub lineSectionCauses : List ℕ → List Cause

@@ -1,23 +1,25 @@
 -- What a file with sound sections satisfies, and that each test of record ends passes exactly where its facts hold: `…-facts` and `…-test`.
 use mathlib.Core.Bool.{true, false, not, _&&_}
 use mathlib.Core.List.{List, _++_}
+use mathlib.Core.Logic.{_⊎_, inl, inr, ⊎-elim}
 use mathlib.Core.Path.{_≡_}
 use Prim.Native.Nat.{ℕ, _*_, _≤_, _<_}
 use native.Mathlib.Nat.{le-antisymm}
 use native.Mathlib.Omega.{arith}
-use borrow.Author.Tests.{ltb-true, ltb-false, eqb-false, not-true, not-false, lt-ltb, le-ltb, ne-eqb}
+use borrow.Author.Tests.{ltb-true, ltb-false, eqb-true, eqb-false, not-true, not-false, lt-ltb, le-ltb, eq-eqb, ne-eqb}
 use lib.Dec.{ltb, eqb}
 use lib.ListN.{length}
-use Rattle.lists.specs.Tests.{and-left, and-right}
+use Rattle.lists.specs.Tests.{split, and-left, and-right}
 use Rattle.lists.specs.Loops.{allBelow-at, allBelow-by}
 use Rattle.lists.specs.Places.{length-part}
-use Rattle.refusals.specs.Outcomes.{gives}
+use Rattle.refusals.specs.Outcomes.{gives, outcome}
 use Rattle.refusals.specs.Causes.{NoneHolds, none-both}
 use Rattle.table_spec.specs.Limits.{maxBuses, maxLines, maxBytes}
-use Rattle.table_spec.specs.Holds.{needsInRange}
+use Rattle.table_spec.specs.Holds.{needsInRange, weightsInRange}
 use Rattle.table_spec.specs.Facts.{within-facts, within-test}
-use Rattle.file_spec.specs.FileBytes.{fileBusCount, needsEnd, needBytes, fileLineCount, recordsAt, fileEnd, records, firstEnd, secondEnd}
-use Rattle.file_spec.specs.Sections.{endsBefore, goesOn, busSectionCauses, lineCountCauses, missingCauses, endCauses, lineSectionCauses, sectionCauses, counts, sectionsOutcome, twoBuses, soundEnds}
+use Rattle.file_spec.specs.FileBytes.{fileBusCount, needsEnd, needBytes, fileLineCount, recordsAt, recordsEnd, records, firstEnd, secondEnd, fileWeightCount, weightsAt, weightsEnd, weightBytes, fileWeights}
+use Rattle.file_spec.specs.WeightBytes.{ones-range, weightBytes-none, length-weightBytes}
+use Rattle.file_spec.specs.Sections.{endsBefore, goesOn, busSectionCauses, lineCountCauses, missingCauses, weightSectionCauses, endCauses, lineSectionCauses, sectionCauses, counts, sectionsOutcome, twoBuses, soundEnds}
 
 -- ---- the sections
 
@@ -28,11 +30,18 @@ pub record SoundBusSection (f : List ℕ) : Type 0 where
   pub complete : needsEnd f ≤ length f
   pub needs : needsInRange (needBytes f) ≡ true
 
--- and whose sections all are
+-- whose weight section is
+pub record SoundWeightSection (f : List ℕ) : Type 0 where
+  pub counted : fileWeightCount f ≡ fileBusCount f
+  pub size : length f ≡ weightsEnd f
+
+-- and whose sections all are; the weight section may be missing, and all weights are 1 then
 pub record SoundSections (f : List ℕ) : Type 0 where
   pub first : SoundBusSection f
   pub lines : fileLineCount f ≤ maxLines
-  pub size : length f ≡ fileEnd f
+  pub complete : recordsEnd f ≤ length f
+  pub third : recordsEnd f < length f → SoundWeightSection f
+  pub weights : weightsInRange (fileWeights f) ≡ true
 
 -- where none of a stage's causes holds
 module _ (f : List ℕ) where
@@ -45,23 +54,55 @@ module _ (f : List ℕ) where
   pub lines-passed : NoneHolds (lineCountCauses f) → fileLineCount f ≤ maxLines
   lines-passed z = within-facts 0 maxLines (fileLineCount f) (not-false _ (z .1 .0)) .1
 
-  pub end-passed : NoneHolds (missingCauses f ++ endCauses f) → length f ≡ fileEnd f
+  pub records-passed : NoneHolds (missingCauses f) → recordsEnd f ≤ length f
+  unfolding endsBefore
+  records-passed z = ltb-false _ _ (z .0)
+
+  pub weights-passed : NoneHolds (weightSectionCauses f) → SoundWeightSection f × (weightsInRange (fileWeights f) ≡ true)
   unfolding endsBefore goesOn
-  end-passed z = le-antisymm (ltb-false _ _ (z .1 .0)) (ltb-false _ _ (z .0))
+  weights-passed z = (
+    record { counted = eqb-true _ _ (not-false _ (z .1 .0)); size = le-antisymm (ltb-false _ _ (z .1 .1 .1 .1 .0)) (ltb-false _ _ (z .1 .1 .0)) },
+    not-false _ (z .1 .1 .1 .0),
+  )
+
+  end-passed : NoneHolds (endCauses f) → (recordsEnd f < length f → SoundWeightSection f) × (weightsInRange (fileWeights f) ≡ true)
+  unfolding goesOn
+  end-passed z =
+      split (ltb (recordsEnd f) (length f))
+      (λ e. let w = weights-passed (rw e at z) in (λ h. w .0, w .1))
+      (λ e. let h = ltb-false (recordsEnd f) (length f) e in
+      (λ l. absurd (omega arith), ones-range (weightBytes f) (weightBytes-none f (omega arith)) (fileBusCount f)))
 
   -- a file that no cause refuses
   pub sections-passed : NoneHolds (sectionCauses f) → SoundSections f
   sections-passed z =
       let a = none-both (busSectionCauses f) (lineSectionCauses f) z in
       let b = none-both (lineCountCauses f) (missingCauses f ++ endCauses f) (a .1) in
-      record { first = buses-passed (a .0); lines = lines-passed (b .0); size = end-passed (b .1) }
+      let c = none-both (missingCauses f) (endCauses f) (b .1) in
+      let w = end-passed (c .1) in
+      record { first = buses-passed (a .0); lines = lines-passed (b .0); complete = records-passed (c .0); third = w .0; weights = w .1 }
 
 module _ {f : List ℕ} (s : SoundSections f) where
   -- and a file whose sections are sound is not refused because of them
-  pub sections-test : sectionsOutcome f ≡ gives (counts f)
+  end-test : outcome (endCauses f) (counts f) ≡ gives (counts f)
   unfolding endsBefore goesOn
+  end-test =
+      split (ltb (recordsEnd f) (length f))
+      (λ e. let w = s .third (ltb-true _ _ e) in
+      simp (
+        e,
+        le-ltb (length f) (weightsAt f) (omega (arith, w .size)),
+        eq-eqb (fileWeightCount f) (fileBusCount f) (w .counted),
+        le-ltb (length f) (weightsEnd f) (omega (arith, w .size)),
+        s .weights,
+        le-ltb (weightsEnd f) (length f) (omega (arith, w .size)),
+      ))
+      (λ e. rw e)
+
+  pub sections-test : sectionsOutcome f ≡ gives (counts f)
+  unfolding endsBefore
   sections-test =
-      let reaches : (i : ℕ) → i ≤ fileEnd f → ltb (length f) i ≡ false = λ i h. le-ltb (length f) i (omega (arith, s .size)) in
+      let reaches : (i : ℕ) → i ≤ recordsEnd f → ltb (length f) i ≡ false = λ i h. le-ltb (length f) i (omega (arith, s .complete)) in
       simp (
         within-test 1 maxBuses (fileBusCount f) (s .first .positive) (s .first .buses),
         within-test 0 maxLines (fileLineCount f) (omega arith) (s .lines),
@@ -69,21 +110,32 @@ module _ {f : List ℕ} (s : SoundSections f) where
         reaches 2 (omega arith),
         reaches (needsEnd f) (omega arith),
         reaches (recordsAt f) (omega arith),
-        reaches (fileEnd f) (omega arith),
-        le-ltb (fileEnd f) (length f) (omega (arith, s .size)),
-      )
+        reaches (recordsEnd f) (omega arith),
+      ) end-test
 
   pub length-needBytes : length (needBytes f) ≡ fileBusCount f
   unfolding needBytes
-  length-needBytes = omega (arith, length-part 2 (needsEnd f) f (omega (arith, s .size)))
+  length-needBytes = omega (arith, length-part 2 (needsEnd f) f (s .first .complete))
 
   pub length-records : length (records f) ≡ 4 * fileLineCount f
   unfolding records
-  length-records = omega (arith, length-part (recordsAt f) (fileEnd f) f (omega (arith, s .size)))
+  length-records = omega (arith, length-part (recordsAt f) (recordsEnd f) f (s .complete))
 
-  -- no file is longer than the limit says
+  -- the file ends behind the records, or behind the weights
+  pub ends : (length f ≡ recordsEnd f) ⊎ SoundWeightSection f
+  ends =
+      split (ltb (recordsEnd f) (length f))
+      (λ e. inr (s .third (ltb-true (recordsEnd f) (length f) e)))
+      (λ e. inl (le-antisymm (ltb-false (recordsEnd f) (length f) e) (s .complete)))
+
+  -- so it has two bytes for each weight, or none at all
+  pub weights-complete : 0 < length (weightBytes f) → length (weightBytes f) ≡ 2 * fileBusCount f
+  weights-complete h =
+      ⊎-elim (λ e. absurd (omega (arith, weightBytes-none f (omega arith)))) (λ w. length-weightBytes f (omega (arith, w .size))) ends
+
+  -- and is not longer than the limit says
   pub bytes-le : length f ≤ maxBytes
-  bytes-le = omega (arith, s .size, s .first .buses, s .lines)
+  bytes-le = ⊎-elim (λ e. omega (arith, s .first .buses, s .lines)) (λ w. omega (arith, w .size, s .first .buses, s .lines)) ends
 
 -- ---- the ends of records
 
