@@ -1,14 +1,15 @@
-// The network file: where it has what, whether its counts, its needs and the ends of its records are sound, and whether its records are in order.
+// The network file: where it has what, whether its counts, its needs, its weights and the ends of its records are sound, and whether its records are in order.
 ghost use mathlib.Core.Bool.{_||_};
 ghost use mathlib.Core.List.{_++_};
 ghost use mathlib.Core.Path.{_≡_};
 ghost use Prim.Native.Nat.{_+_, _*_, _≤_, _<_};
 ghost use lib.ListN.{length};
+ghost use Rattle.lists.specs.Below.{mapBelow};
 ghost use Rattle.refusals.specs.Outcomes.{outcome};
 ghost use Rattle.table_spec.specs.Limits.{maxBuses, maxLines};
-ghost use Rattle.table_spec.specs.Holds.{needsInRange};
-ghost use Rattle.file_spec.specs.FileBytes.{wordAt, fileBusCount, needsEnd, needBytes, fileLineCount, fileEnd, records, firstEnd, secondEnd};
-ghost use Rattle.file_spec.specs.Sections.{busSectionCauses, lineCountCauses, missingCauses, endCauses, lineSectionCauses, counts, sectionsOutcome, twoBuses, soundEnds};
+ghost use Rattle.table_spec.specs.Holds.{needsInRange, weightsInRange};
+ghost use Rattle.file_spec.specs.FileBytes.{wordAt, fileBusCount, needsEnd, needBytes, fileLineCount, recordsEnd, records, firstEnd, secondEnd, fileWeightCount, weightBytes, weightIn};
+ghost use Rattle.file_spec.specs.Sections.{busSectionCauses, lineCountCauses, missingCauses, weightSectionCauses, endCauses, lineSectionCauses, counts, sectionsOutcome, twoBuses, soundEnds};
 ghost use Rattle.file_spec.specs.SoundSections.{SoundSections};
 ghost use Rattle.file_spec.specs.RecordOrder.{turned, falls, outOfOrder};
 ghost use Rattle.file_sections.specs.FileAnswers.{outcomeOfCount, outcomeOfReading};
@@ -53,12 +54,38 @@ pub fn need_bytes(file: &[u8], n: usize) -> &[u8]
     &file[2..2 + n]
 }
 
-// The bytes of the records of a file of n buses.
-pub fn records(file: &[u8], n: usize) -> &[u8]
-    requires { ⌜ (n ≡ fileBusCount (now file)) × SoundSections (now file) ⌝ }
+// The bytes of the m records of a file of n buses.
+pub fn records(file: &[u8], n: usize, m: usize) -> &[u8]
+    requires { ⌜ (n ≡ fileBusCount (now file)) × (m ≡ fileLineCount (now file)) × SoundSections (now file) ⌝ }
     ensures { λ r. ⌜ now r ≡ records (now (file .entry)) ⌝ }
 {
-    &file[2 + n + 2..file.len()]
+    let from = 2 + n + 2;
+    let end = from + 4 * m;
+    &file[from..end]
+}
+
+// The bytes of the weights of a file of n buses and m records; none if it ends behind the records.
+pub fn weight_bytes(file: &[u8], n: usize, m: usize) -> &[u8]
+    requires { ⌜ (n ≡ fileBusCount (now file)) × (m ≡ fileLineCount (now file)) × SoundSections (now file) ⌝ }
+    ensures { λ r. ⌜ now r ≡ weightBytes (now (file .entry)) ⌝ }
+{
+    let end = 2 + n + 2 + 4 * m;
+    if file.len() <= end {
+        return &file[end..end];
+    }
+    let from = end + 2;
+    &file[from..from + 2 * n]
+}
+
+// The weight that the bytes of a section of weights give a bus; where there are none, 1.
+pub fn weight_in(section: &[u8], bus: usize) -> usize
+    requires { ⌜ (0 < length (now section) → 2 * bus + 1 < length (now section)) ⌝ }
+    ensures { λ r. ⌜ (r ≡ weightIn (now (section .entry)) bus) × (r < 65536) ⌝ }
+{
+    if section.len() == 0 {
+        return 1;
+    }
+    word(section, 2 * bus)
 }
 
 // Whether every need is one that a bus may have.
@@ -114,13 +141,67 @@ pub fn line_count(file: &[u8], n: usize) -> Counted
 // Where the m records of a file of n buses end, if they are complete.
 pub fn records_end(file: &[u8], n: usize, m: usize) -> Counted
     requires { ⌜ (n ≡ fileBusCount (now file)) × (n ≤ maxBuses) × (m ≡ fileLineCount (now file)) × (m ≤ maxLines) ⌝ }
-    ensures { λ r. ⌜ outcomeOfCount r ≡ outcome (missingCauses (now (file .entry))) (fileEnd (now (file .entry))) ⌝ }
+    ensures { λ r. ⌜ outcomeOfCount r ≡ outcome (missingCauses (now (file .entry))) (recordsEnd (now (file .entry))) ⌝ }
 {
     let end = 2 + n + 2 + 4 * m;
     if file.len() < end {
         return Counted::Refused(Refusal::FileTooShort);
     }
     Counted::Is(end)
+}
+
+// Whether every weight that the bytes of a section give n buses is one that a bus may have.
+fn weights_in_range(section: &[u8], n: usize) -> bool
+    requires { ⌜ 2 * n ≤ length (now section) ⌝ }
+    ensures { λ b. ⌜ b ≡ weightsInRange (mapBelow n (weightIn (now (section .entry)))) ⌝ }
+{
+    let mut bus = 0;
+    while bus < n {
+        if !within(1, Network::WEIGHT, weight_in(section, bus)) {
+            return false;
+        }
+        bus += 1;
+    }
+    true
+}
+
+// The weight count of a file of n buses whose records end at place `from`, if the section of weights is sound and the file ends behind it.
+fn weight_section(file: &[u8], n: usize, from: usize) -> Counted
+    requires { ⌜ (n ≡ fileBusCount (now file)) × (n ≤ maxBuses) × (from ≡ recordsEnd (now file)) × (fileLineCount (now file) ≤ maxLines) ⌝ }
+    ensures { λ r. ⌜ outcomeOfCount r ≡ outcome (weightSectionCauses (now (file .entry))) (fileWeightCount (now (file .entry))) ⌝ }
+{
+    let weights_at = from + 2;
+    if file.len() < weights_at {
+        return Counted::Refused(Refusal::FileTooShort);
+    }
+    if word(file, from) != n {
+        return Counted::Refused(Refusal::WeightCount);
+    }
+    let weights_end = weights_at + 2 * n;
+    if file.len() < weights_end {
+        return Counted::Refused(Refusal::FileTooShort);
+    }
+    if !weights_in_range(&file[weights_at..weights_end], n) {
+        return Counted::Refused(Refusal::Weight);
+    }
+    if weights_end < file.len() {
+        return Counted::Refused(Refusal::FileTooLong);
+    }
+    Counted::Is(n)
+}
+
+// Judges what follows the m records of a file of n buses, which end at place `from`: nothing, or a section of weights.
+pub fn judge_weights(file: &[u8], n: usize, m: usize, from: usize) -> Reading
+    requires { ⌜ (n ≡ fileBusCount (now file)) × (n ≤ maxBuses) × (m ≡ fileLineCount (now file)) × (m ≤ maxLines) × (from ≡ recordsEnd (now file)) ⌝ }
+    ensures { λ r. ⌜ outcomeOfReading r ≡ outcome (endCauses (now (file .entry))) (counts (now (file .entry))) ⌝ }
+{
+    if file.len() <= from {
+        return Reading::Accepted(Counts { buses: n, lines: m });
+    }
+    match weight_section(file, n, from) {
+        Counted::Refused(cause) => Reading::Refused(cause),
+        Counted::Is(_) => Reading::Accepted(Counts { buses: n, lines: m }),
+    }
 }
 
 // Judges where a file of n buses and m records ends.
@@ -130,12 +211,7 @@ fn judge_end(file: &[u8], n: usize, m: usize) -> Reading
 {
     match records_end(file, n, m) {
         Counted::Refused(cause) => Reading::Refused(cause),
-        Counted::Is(end) => {
-            if end < file.len() {
-                return Reading::Refused(Refusal::FileTooLong);
-            }
-            Reading::Accepted(Counts { buses: n, lines: m })
-        }
+        Counted::Is(end) => judge_weights(file, n, m, end),
     }
 }
 

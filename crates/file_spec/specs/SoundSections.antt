@@ -2,7 +2,7 @@
 use mathlib.Core.Bool.{true, false, not, _&&_}
 use mathlib.Core.List.{List, _++_}
 use mathlib.Core.Logic.{_⊎_, inl, inr, ⊎-elim}
-use mathlib.Core.Path.{_≡_}
+use mathlib.Core.Path.{_≡_, ap}
 use Prim.Native.Nat.{ℕ, _*_, _≤_, _<_}
 use native.Mathlib.Nat.{le-antisymm}
 use native.Mathlib.Omega.{arith}
@@ -71,7 +71,7 @@ module _ (f : List ℕ) where
       split (ltb (recordsEnd f) (length f))
       (λ e. let w = weights-passed (rw e at z) in (λ h. w .0, w .1))
       (λ e. let h = ltb-false (recordsEnd f) (length f) e in
-      (λ l. absurd (omega arith), ones-range (weightBytes f) (weightBytes-none f (omega arith)) (fileBusCount f)))
+      (λ l. absurd (omega arith), ones-range (weightBytes f) (ap length (weightBytes-none f (omega arith))) (fileBusCount f)))
 
   -- a file that no cause refuses
   pub sections-passed : NoneHolds (sectionCauses f) → SoundSections f
@@ -131,7 +131,7 @@ module _ {f : List ℕ} (s : SoundSections f) where
   -- so it has two bytes for each weight, or none at all
   pub weights-complete : 0 < length (weightBytes f) → length (weightBytes f) ≡ 2 * fileBusCount f
   weights-complete h =
-      ⊎-elim (λ e. absurd (omega (arith, weightBytes-none f (omega arith)))) (λ w. length-weightBytes f (omega (arith, w .size))) ends
+      ⊎-elim (λ e. absurd (omega (arith, ap length (weightBytes-none f (omega arith))))) (λ w. length-weightBytes f (omega (arith, w .size))) ends
 
   -- and is not longer than the limit says
   pub bytes-le : length f ≤ maxBytes

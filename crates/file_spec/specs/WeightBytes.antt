@@ -1,12 +1,13 @@
 -- Laws of the weights that the bytes of a section give n buses: two bytes for each, or none, and all weights are 1.
 use mathlib.Core.Bool.{true}
-use mathlib.Core.List.{List}
-use mathlib.Core.Path.{_≡_, ap, _∙_}
-use Prim.Native.Nat.{ℕ, _*_, _≤_, _<_}
+use mathlib.Core.List.{List, []}
+use mathlib.Core.Path.{_≡_, ap, ap₂, _∙_}
+use Prim.Native.Nat.{ℕ, _+_, _*_, _≤_, _<_}
 use native.Mathlib.Omega.{arith}
 use borrow.Author.Tests.{eq-eqb, ne-eqb}
 use lib.ListN.{length, drop, length-take, length-drop}
-use Rattle.lists.specs.Lists.{at}
+use lib.Seq.{ext-getD}
+use Rattle.lists.specs.Lists.{at, part}
 use Rattle.lists.specs.Below.{allBelow, mapBelow}
 use Rattle.lists.specs.Loops.{allBelow-by, allBelow-same}
 use Rattle.lists.specs.Places.{length-part}
@@ -14,7 +15,7 @@ use Rattle.lists.specs.JoinBelow.{length-mapBelow, mapBelow-at}
 use Rattle.table_spec.specs.Limits.{maxWeight}
 use Rattle.table_spec.specs.Holds.{within, inRange, weightsInRange}
 use Rattle.table_spec.specs.Facts.{within-test}
-use Rattle.file_spec.specs.FileBytes.{wordAt, fileBusCount, weightsAt, weightsEnd, weightBytes, weightIn}
+use Rattle.file_spec.specs.FileBytes.{wordAt, fileBusCount, recordsEnd, weightsAt, weightsEnd, weightBytes, weightIn, fileWeights}
 
 module _ (b : List ℕ) where
   pub weight-none : length b ≡ 0 → (i : ℕ) → weightIn b i ≡ 1
@@ -38,10 +39,17 @@ module _ (b : List ℕ) where
 
 -- how many bytes a file has for them
 module _ (f : List ℕ) where
-  pub weightBytes-none : length f ≤ weightsAt f → length (weightBytes f) ≡ 0
+  pub weightBytes-none : length f ≤ weightsAt f → weightBytes f ≡ []
   unfolding weightBytes
-  weightBytes-none h = simp (length-take, length-drop) (omega arith)
+  weightBytes-none h =
+      let e : length (part (weightsAt f) (weightsEnd f) f) ≡ 0 = simp (length-take, length-drop) (omega arith) in
+      ext-getD 0 (part (weightsAt f) (weightsEnd f) f) [] e (λ k b. absurd (omega arith))
 
   pub length-weightBytes : weightsEnd f ≤ length f → length (weightBytes f) ≡ 2 * fileBusCount f
   unfolding weightBytes
   length-weightBytes h = omega (arith, length-part (weightsAt f) (weightsEnd f) f h)
+
+  -- and what they are, as code reads them: the bus count into n and the place where the records end into e
+  pub weights-read : {n e : ℕ} → n ≡ fileBusCount f → e ≡ recordsEnd f → mapBelow n (weightIn (part (e + 2) (e + 2 + 2 * n) f)) ≡ fileWeights f
+  unfolding weightBytes
+  weights-read p q = ap₂ (λ n e. mapBelow n (weightIn (part (e + 2) (e + 2 + 2 * n) f))) p q
