@@ -9,11 +9,11 @@ use native.Mathlib.Omega.{arith}
 use borrow.Author.Tests.{ltb-true, ltb-false, eqb-true, eqb-false, not-true, not-false, lt-ltb, le-ltb, eq-eqb, ne-eqb}
 use lib.Dec.{ltb, eqb}
 use lib.ListN.{length}
-use Rattle.lists.specs.Tests.{split, and-left, and-right}
+use Rattle.lists.specs.Tests.{split, and-left, and-right, or-none}
 use Rattle.lists.specs.Loops.{allBelow-at, allBelow-by}
 use Rattle.lists.specs.Places.{length-part}
 use Rattle.refusals.specs.Outcomes.{gives, outcome}
-use Rattle.refusals.specs.Causes.{NoneHolds, none-both}
+use Rattle.refusals.specs.Causes.{NoneHolds, none-both, numbered, none-numbered}
 use Rattle.table_spec.specs.Limits.{maxBuses, maxLines, maxBytes}
 use Rattle.table_spec.specs.Holds.{needsInRange, weightsInRange}
 use Rattle.table_spec.specs.Facts.{within-facts, within-test}
@@ -60,10 +60,11 @@ module _ (f : List ℕ) where
 
   pub weights-passed : NoneHolds (weightSectionCauses f) → SoundWeightSection f × (weightsInRange (fileWeights f) ≡ true)
   unfolding endsBefore goesOn
-  weights-passed z = (
-    record { counted = eqb-true _ _ (not-false _ (z .1 .0)); size = le-antisymm (ltb-false _ _ (z .1 .1 .1 .1 .0)) (ltb-false _ _ (z .1 .1 .0)) },
-    not-false _ (z .1 .1 .1 .0),
-  )
+  weights-passed z =
+      let none : (k : ℕ) → numbered k (weightSectionCauses f) ≡ false = λ k. none-numbered k (weightSectionCauses f) z in (
+        record { counted = eqb-true _ _ (not-false _ (or-none _ _ (none 19) .0)); size = le-antisymm (ltb-false _ _ (z .1 .1 .1 .1 .0)) (ltb-false _ _ (z .1 .1 .0)) },
+        not-false _ (or-none _ _ (none 20) .0),
+      )
 
   end-passed : NoneHolds (endCauses f) → (recordsEnd f < length f → SoundWeightSection f) × (weightsInRange (fileWeights f) ≡ true)
   unfolding goesOn

@@ -7,12 +7,12 @@ use borrow.Author.Tests.{not-false, le-ltb}
 use lib.ListN.{length}
 use Rattle.lists.specs.Tests.{or-none}
 use Rattle.lists.specs.Writes.{put-front}
-use Rattle.refusals.specs.Outcomes.{Outcome, gives}
+use Rattle.refusals.specs.Outcomes.{Outcome, gives, Cause}
 use Rattle.refusals.specs.Causes.{NoneHolds, no-cause, none-gives, none-numbered, none-both, then-decides}
 use Rattle.refusals.specs.Due.{Due, stage-pass}
 use Rattle.table_spec.specs.Layout.{tableEntries}
 use Rattle.network.specs.declared.Counts.{Counts}
-use Rattle.file_spec.specs.FileBytes.{fileBusCount, needBytes, fileLineCount, records}
+use Rattle.file_spec.specs.FileBytes.{fileBusCount, needBytes, fileLineCount, records, weightBytes}
 use Rattle.file_spec.specs.Sections.{sectionCauses, counts, sectionsOutcome, soundEnds}
 use Rattle.file_spec.specs.SoundSections.{SoundSections, sections-passed, sections-test, length-needBytes}
 use Rattle.file_spec.specs.RecordOrder.{outOfOrder}
@@ -32,12 +32,12 @@ module _ (f : List ℕ) {c : Counts} (e : sectionsOutcome f ≡ gives c) where
   pub counted : c ≡ counts f
   counted = no-cause (sectionCauses f) (counts f) e .1
 
-  pub records-decide : (t : List ℕ) {q r : List ℕ} {m : ℕ} {o : Outcome Counts} {t′ : List ℕ} → q ≡ needBytes f → m ≡ fileLineCount f → r ≡ records f → RecordsDue q m r t o t′
-      → ReadDue f t o t′
+  pub records-decide : (t : List ℕ) {q b r : List ℕ} {m : ℕ} {o : Outcome Counts} {t′ : List ℕ} → q ≡ needBytes f → b ≡ weightBytes f → m ≡ fileLineCount f → r ≡ records f
+      → RecordsDue q b m r t o t′ → ReadDue f t o t′
   unfolding storedTable fileTable
-  records-decide t {q} {r} {m} {o} {t′} eq em er d =
+  records-decide t {q} {b} {r} {m} {o} {t′} eq eb em er d =
       let n = fileBusCount f in
-      let d = rw (eq, em, er, length-needBytes sound) at d in
+      let d = rw (eq, eb, em, er, length-needBytes sound) at d in
       stage-pass (sectionCauses f) (counts f) (sym e)
       (subst (λ s. Due (recordCauses n (needBytes f) (fileLineCount f) (records f) (length t)) (networkCounts f) s t o t′) (put-front t (fileTable f)) d)
 
@@ -56,20 +56,26 @@ module _ (f t : List ℕ) where
     none : NoneHolds (readCauses f (length t))
     none = no-cause (readCauses f (length t)) (networkCounts f) e .0
 
+    abbrev records-causes : List Cause
+    records-causes = recordCauses n (needBytes f) m r (length t)
+
+    in-both : NoneHolds (sectionCauses f) × NoneHolds records-causes
+    in-both = none-both (sectionCauses f) records-causes none
+
     pub whole : SoundSections f
-    whole = sections-passed f (none-both (sectionCauses f) (recordCauses n (needBytes f) m r (length t)) none .0)
+    whole = sections-passed f (in-both .0)
 
     pub sound-ends : soundEnds n m r ≡ true
-    sound-ends = not-false _ (or-none _ _ (none-numbered 6 (readCauses f (length t)) none) .0)
+    sound-ends = not-false _ (or-none _ _ (none-numbered 6 records-causes (in-both .1)) .0)
 
     pub none-too-high : degreeTooHigh n m r ≡ false
-    none-too-high = or-none _ _ (none-numbered 7 (readCauses f (length t)) none) .0
+    none-too-high = or-none _ _ (none-numbered 7 records-causes (in-both .1)) .0
 
     pub none-above : needAboveDegree n (needBytes f) m r ≡ false
-    none-above = or-none _ _ (none-numbered 17 (readCauses f (length t)) none) .0
+    none-above = or-none _ _ (none-numbered 17 records-causes (in-both .1)) .0
 
     pub in-order : outOfOrder m r ≡ false
-    in-order = or-none _ _ (none-numbered 15 (readCauses f (length t)) none) .0
+    in-order = or-none _ _ (none-numbered 15 records-causes (in-both .1)) .0
 
     pub counts-given : c ≡ networkCounts f
     counts-given = no-cause (readCauses f (length t)) (networkCounts f) e .1

@@ -9,10 +9,10 @@ use lib.ListN.{length, drop}
 use Rattle.lists.specs.Lists.{has}
 use Rattle.refusals.specs.declared.Refusal.the-variants.{LineEnds, DegreeTooHigh, TableTooShort, OutOfOrder, NeedAboveDegree}
 use Rattle.refusals.specs.Outcomes.{Outcome, gives, refuses, Cause, _⇒_, outcome, valuesOr}
-use Rattle.table_spec.specs.Layout.{busCount, needs, row, lines, tableEntries, tableOf}
+use Rattle.table_spec.specs.Layout.{busCount, needs, weights, row, lines, tableEntries, tableOf}
 use Rattle.table_spec.specs.Holds.{Holds}
 use Rattle.network.specs.declared.Counts.{Counts}
-use Rattle.file_spec.specs.FileBytes.{fileBusCount, needBytes, fileLineCount, records}
+use Rattle.file_spec.specs.FileBytes.{fileBusCount, needBytes, fileLineCount, records, fileWeights}
 use Rattle.file_spec.specs.Sections.{sectionCauses, soundEnds}
 use Rattle.file_spec.specs.RecordOrder.{outOfOrder}
 use Rattle.file_spec.specs.Records.{joined, neighbours, degreeTooHigh, needAboveDegree, pairCount, filePairCount}
@@ -53,9 +53,9 @@ networkCounts f = record { buses = fileBusCount f; lines = filePairCount f }
 abbrev pub readOutcome : List ℕ → ℕ → Outcome Counts
 readOutcome f lent = outcome (readCauses f lent) (networkCounts f)
 
--- the file's table: its buses, the needs as recorded, and for each bus the neighbours that the records give it
+-- the file's table: its buses, the needs as recorded, the weights, and for each bus the neighbours that the records give it
 unfoldable pub fileTable : List ℕ → List ℕ
-fileTable f = tableOf (fileBusCount f) (needBytes f) (neighbours (fileBusCount f) (fileLineCount f) (records f))
+fileTable f = tableOf (fileBusCount f) (needBytes f) (fileWeights f) (neighbours (fileBusCount f) (fileLineCount f) (records f))
 
 -- in a slice that held t: the file's table, followed by the old rest
 unfoldable pub storedTable : List ℕ → List ℕ → List ℕ
@@ -65,11 +65,12 @@ storedTable f t = fileTable f ++ drop (length (fileTable f)) t
 abbrev pub tableAfter : List ℕ → List ℕ → List ℕ
 tableAfter f t = valuesOr t (outcome (readCauses f (length t)) (storedTable f t))
 
--- the slice t holds exactly the buses, needs and different pairs that the file f records, and c are its counts
+-- the slice t holds exactly the buses, needs, weights and different pairs that the file f records, and c are its counts
 pub record AsRecorded (f : List ℕ) (c : Counts) (t : List ℕ) : Type 0 where
   pub holding : Holds t
   pub buses : busCount t ≡ fileBusCount f
   pub needed : needs t ≡ needBytes f
+  pub weighed : weights t ≡ fileWeights f
   pub lined : lines t ≡ filePairCount f
   pub joining : (i j : ℕ) → i < fileBusCount f → has j (row t i) ≡ joined (fileLineCount f) (records f) i j
   pub counted : c ≡ record { buses = busCount t; lines = lines t }

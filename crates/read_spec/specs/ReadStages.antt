@@ -4,22 +4,24 @@ use mathlib.Core.List.{List, _++_}
 use Prim.Native.Nat.{ℕ}
 use lib.ListN.{length}
 use Rattle.lists.specs.Lists.{put}
+use Rattle.lists.specs.Below.{mapBelow}
 use Rattle.refusals.specs.Outcomes.{Outcome, Cause}
 use Rattle.refusals.specs.Due.{Due}
 use Rattle.table_spec.specs.Layout.{tableOf}
 use Rattle.network.specs.declared.Counts.{Counts}
+use Rattle.file_spec.specs.FileBytes.{weightIn}
 use Rattle.file_spec.specs.Records.{neighbours, pairCount}
 use Rattle.read_spec.specs.ReadOutcome.{degreeCauses, needCauses, roomCauses, recordCauses}
 
--- buses with the needs q, and m lines that give them these rows: what is answered, and what a slice that held t holds then, where these causes decide
-abbrev pub TableDue : List Cause → List ℕ → ℕ → (ℕ → List ℕ) → List ℕ → Outcome Counts → List ℕ → Type 0
-TableDue cs q m rows t o t′ = Due cs (record { buses = length q; lines = m }) (put t 0 (tableOf (length q) q rows)) t o t′
+-- buses with the needs q and the weights w, and m lines that give them these rows: what is answered, and what a slice that held t holds then, where these causes decide
+abbrev pub TableDue : List Cause → List ℕ → List ℕ → ℕ → (ℕ → List ℕ) → List ℕ → Outcome Counts → List ℕ → Type 0
+TableDue cs q w m rows t o t′ = Due cs (record { buses = length q; lines = m }) (put t 0 (tableOf (length q) q w rows)) t o t′
 
--- m records r are sound and in order
-abbrev pub LinesDue : List ℕ → ℕ → List ℕ → List ℕ → Outcome Counts → List ℕ → Type 0
-LinesDue q m r t o t′ =
-    TableDue (degreeCauses (length q) m r ++ needCauses (length q) q m r ++ roomCauses (length q) (pairCount m r) (length t)) q (pairCount m r) (neighbours (length q) m r) t o t′
+-- the bytes b give the weights; m records r are sound and in order
+abbrev pub LinesDue : List ℕ → List ℕ → ℕ → List ℕ → List ℕ → Outcome Counts → List ℕ → Type 0
+LinesDue q b m r t o t′ =
+    TableDue (degreeCauses (length q) m r ++ needCauses (length q) q m r ++ roomCauses (length q) (pairCount m r) (length t)) q (mapBelow (length q) (weightIn b)) (pairCount m r) (neighbours (length q) m r) t o t′
 
 -- any m records r
-abbrev pub RecordsDue : List ℕ → ℕ → List ℕ → List ℕ → Outcome Counts → List ℕ → Type 0
-RecordsDue q m r t o t′ = TableDue (recordCauses (length q) q m r (length t)) q (pairCount m r) (neighbours (length q) m r) t o t′
+abbrev pub RecordsDue : List ℕ → List ℕ → ℕ → List ℕ → List ℕ → Outcome Counts → List ℕ → Type 0
+RecordsDue q b m r t o t′ = TableDue (recordCauses (length q) q m r (length t)) q (mapBelow (length q) (weightIn b)) (pairCount m r) (neighbours (length q) m r) t o t′

@@ -9,18 +9,19 @@ use lib.ListN.{length, drop}
 use Rattle.lists.specs.Lists.{has}
 use Rattle.lists.specs.Below.{joinBelow}
 use Rattle.lists.specs.Loops.{allBelow-at}
+use Rattle.lists.specs.JoinBelow.{length-mapBelow}
 use Rattle.refusals.specs.Outcomes.{Outcome, gives, refuses, valuesOr}
 use Rattle.refusals.specs.Causes.{part-answered}
 use Rattle.refusals.specs.Due.{both}
-use Rattle.table_spec.specs.Limits.{maxNeed}
+use Rattle.table_spec.specs.Limits.{maxNeed, maxWeight}
 use Rattle.table_spec.specs.Layout.{busCount, lines, tableEntries, tableOf}
 use Rattle.table_spec.specs.Holds.{Holds}
 use Rattle.table_spec.specs.TableOutcomes.{SameNetwork}
 use Rattle.table_spec.specs.Facts.{range-facts}
-use Rattle.table_spec.specs.Laid.{length-tableOf, made-busCount, made-needs, made-last, made-row, made-holds, made-beyond}
+use Rattle.table_spec.specs.Laid.{length-tableOf, made-busCount, made-needs, made-weights, made-last, made-row, made-holds, made-beyond}
 use Rattle.table_spec.specs.LineCount.{two-for-each}
 use Rattle.network.specs.declared.Counts.{Counts}
-use Rattle.file_spec.specs.FileBytes.{fileBusCount, needBytes, fileLineCount, records}
+use Rattle.file_spec.specs.FileBytes.{fileBusCount, needBytes, fileLineCount, records, weightBytes, weightIn, fileWeights}
 use Rattle.file_spec.specs.Sections.{soundEnds}
 use Rattle.file_spec.specs.SoundSections.{length-needBytes, ends-facts}
 use Rattle.file_spec.specs.Records.{neighbours, pairCount, filePairCount}
@@ -50,22 +51,28 @@ module _ (f t : List ℕ) {c : Counts} (e : readOutcome f (length t) ≡ gives c
   abbrev q : List ℕ
   q = needBytes f
 
+  abbrev w : List ℕ
+  w = fileWeights f
+
   abbrev rows : ℕ → List ℕ
   rows = neighbours n m r
 
   abbrev rest : List ℕ
   rest = drop (length (fileTable f)) t
 
-  stored : tableAfter f t ≡ tableOf n q rows ++ rest
+  stored : tableAfter f t ≡ tableOf n q w rows ++ rest
   unfolding storedTable fileTable
   stored = table-stored f t e
 
   long : length q ≡ n
   long = length-needBytes (whole f t e)
 
-  held : Holds (tableOf n q rows ++ rest)
+  wide : length w ≡ n
+  wide = length-mapBelow n (weightIn (weightBytes f))
+
+  held : Holds (tableOf n q w rows ++ rest)
   held =
-      made-holds n q rows rest long (whole f t e .first .positive) (whole f t e .first .buses) (range-facts maxNeed q (whole f t e .first .needs))
+      made-holds n q w rows rest long wide (whole f t e .first .positive) (whole f t e .first .buses) (range-facts maxNeed q (whole f t e .first .needs)) (range-facts maxWeight w (whole f t e .weights))
       (λ i b. neighbours-valid n m r ends i) (neighbours-max-le n m r (none-too-high f t e))
       (λ i j b c. neighbours-joined n m r ends i j ∙ joined-sym m r i j ∙ sym (neighbours-joined n m r ends j i)) (λ i b. allBelow-at _ n (not-false _ (none-above f t e)) b)
 
@@ -75,14 +82,14 @@ module _ (f t : List ℕ) {c : Counts} (e : readOutcome f (length t) ≡ gives c
   -- the table has as many entries as refusal 10 asks for
   pub entries : length (fileTable f) ≡ tableEntries n (filePairCount f)
   unfolding fileTable
-  entries = omega (arith, length-tableOf n q rows long, numbers)
+  entries = omega (arith, length-tableOf n q w rows long wide, numbers)
 
   -- the slice holds exactly what the file records
-  same-buses : busCount (tableOf n q rows ++ rest) ≡ n
-  same-buses = made-busCount n q rows rest long
+  same-buses : busCount (tableOf n q w rows ++ rest) ≡ n
+  same-buses = made-busCount n q w rows rest long wide
 
-  same-lines : lines (tableOf n q rows ++ rest) ≡ filePairCount f
-  same-lines = omega (arith, two-for-each _ held, made-last n q rows rest long, numbers)
+  same-lines : lines (tableOf n q w rows ++ rest) ≡ filePairCount f
+  same-lines = omega (arith, two-for-each _ held, made-last n q w rows rest long wide, numbers)
 
   pub recorded : AsRecorded f c (tableAfter f t)
   recorded =
@@ -90,16 +97,17 @@ module _ (f t : List ℕ) {c : Counts} (e : readOutcome f (length t) ≡ gives c
       record {
         holding = held;
         buses = same-buses;
-        needed = made-needs n q rows rest long;
+        needed = made-needs n q w rows rest long wide;
+        weighed = made-weights n q w rows rest long wide;
         lined = same-lines;
-        joining = λ i j b. ap (has j) (made-row n q rows rest long i b) ∙ neighbours-joined n m r ends i j;
+        joining = λ i j b. ap (has j) (made-row n q w rows rest long wide i b) ∙ neighbours-joined n m r ends i j;
         counted = counts-given f t e ∙ sym (ap₂ (λ (a b : ℕ). record { buses = a; lines = b }) same-buses same-lines);
       }
 
   -- and to every call the file's table, whatever stands behind it
   pub stored-same : SameNetwork (tableAfter f t) (fileTable f)
   unfolding fileTable
-  stored-same = rw stored (made-beyond n q rows long rest)
+  stored-same = rw stored (made-beyond n q w rows long wide rest)
 
 -- what is answered and stored as it is due is so for every file and slice
 all-recorded : (f t : List ℕ) (o : Outcome Counts) {t′ : List ℕ} → o ≡ readOutcome f (length t) → t′ ≡ tableAfter f t → Recorded f t o t′
