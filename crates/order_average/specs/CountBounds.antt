@@ -3,8 +3,8 @@ use Prim.Native.Nat.{ℕ}
 
 -- things that are counted
 abbrev pub counted : ℕ
-counted = 11
+counted = 14
 
 -- more than any L or numerator
 abbrev pub large : ℕ
-large = 10000
+large = 10000000

@@ -7,4 +7,4 @@ most = 7
 
 -- entries of a line table
 abbrev pub entries : ℕ
-entries = 2 * most + 2 + most * most
+entries = 3 * most + 2 + most * most

@@ -23,17 +23,31 @@ fn is_seen(small: Small, fitted: u32, bus: usize) -> bool
     has(fitted, bus) || size(neighbours[bus] & fitted) >= needs[bus] as u32
 }
 
-// How many buses are seen.
-fn seen(small: Small, fitted: u32) -> u32
+// The value of a set of recorders: the weights of the buses that are seen, added up. No sum of weights comes near where it
+// would wrap.
+fn value(small: Small, fitted: u32) -> u32
     requires { ⌜ small .buses ≤ most ⌝ }
 {
-    let mut count = 0;
+    let weights = small.weights;
+    let mut sum = 0;
     for bus in 0..small.buses {
         if is_seen(small, fitted, bus) {
-            count += 1;
+            sum = wrapping_add_u32(sum, weights[bus] as u32);
         }
     }
-    count
+    sum
+}
+
+// The weights of all buses, added up.
+fn total_weight(small: Small) -> u32
+    requires { ⌜ small .buses ≤ most ⌝ }
+{
+    let weights = small.weights;
+    let mut sum = 0;
+    for bus in 0..small.buses {
+        sum = wrapping_add_u32(sum, weights[bus] as u32);
+    }
+    sum
 }
 
 // The lowest bus not yet fitted, after so many of them are passed over.
@@ -61,20 +75,20 @@ fn has_order(buses: u32, number: u32) -> bool {
     rest == 0
 }
 
-// Fits the buses in the order of a number, adds each bus's gain to its sum, and gives the sum of all gains. A gain is how many
-// buses more are seen; were they fewer, it would wrap and be no small number.
+// Fits the buses in the order of a number, adds each bus's gain to its sum, and gives the sum of all gains. A gain is how much
+// the value rises; were it to fall, the gain would wrap and be no small number.
 fn fit(small: Small, number: u32, sums: &mut [u32; MOST]) -> u32
     requires { ⌜ small .buses ≤ most ⌝ }
 {
     let mut fitted = 0;
-    let mut before = seen(small, fitted);
+    let mut before = value(small, fitted);
     let mut gains = 0;
     let mut rest = number;
     let mut left = small.buses as u32;
     while left > 0 {
         let bus = next(fitted, rest % left);
         fitted |= only(bus);
-        let after = seen(small, fitted);
+        let after = value(small, fitted);
         let gain = wrapping_sub_u32(after, before);
         sums[bus] = wrapping_add_u32(sums[bus], gain);
         gains = wrapping_add_u32(gains, gain);
@@ -85,8 +99,8 @@ fn fit(small: Small, number: u32, sums: &mut [u32; MOST]) -> u32
     gains
 }
 
-// What all orders give: how many were gone through, in how many the gains do not add up to all buses, and the sum of each
-// bus's gains.
+// What all orders give: how many were gone through, in how many the gains do not add up to the total weight, and the sum of
+// each bus's gains.
 pub struct Gains {
     pub orders: u32,
     pub uneven: u32,
@@ -101,6 +115,7 @@ pub fn all_orders(small: Small) -> Gains
     requires { ⌜ small .buses ≤ most ⌝ }
 {
     let buses = small.buses as u32;
+    let total = total_weight(small);
     let mut sums = [0u32; MOST];
     let mut uneven = 0;
     let mut orders = 0;
@@ -108,7 +123,7 @@ pub fn all_orders(small: Small) -> Gains
         if !has_order(buses, orders) {
             break;
         }
-        if fit(small, orders, &mut sums) != buses {
+        if fit(small, orders, &mut sums) != total {
             uneven += 1;
         }
         orders += 1;

@@ -1,4 +1,5 @@
-// Which networks are compared: all small ones with need 1, and some with needs and lines drawn by chance from a fixed seed.
+// Which networks are compared: all small ones with need 1 and weight 1, and some with needs, lines and weights drawn by chance
+// from a fixed seed.
 ghost use mathlib.Core.Path.{_≡_};
 ghost use Prim.Native.Nat.{_≤_, _<_};
 ghost use Rattle.small_networks.specs.SizeBounds.{most};
@@ -21,8 +22,8 @@ pub fn line_sets(buses: usize) -> u64 {
     }
 }
 
-// The network of a number below that, with need 1 everywhere. Its binary digits say which lines there are: one digit for bus 1,
-// two for bus 2, and so on, each for a bus of a lower number.
+// The network of a number below that, with need 1 and weight 1 everywhere. Its binary digits say which lines there are: one
+// digit for bus 1, two for bus 2, and so on, each for a bus of a lower number.
 pub fn numbered(buses: usize, number: u64) -> Small
     requires { ⌜ buses ≤ most ⌝ }
     ensures { λ r. ⌜ r .buses ≡ buses ⌝ }
@@ -36,6 +37,7 @@ pub fn numbered(buses: usize, number: u64) -> Small
     Small {
         buses,
         needs: [1u8; MOST],
+        weights: [1u16; MOST],
         neighbours: neighbours(&lower, buses),
     }
 }
@@ -52,8 +54,8 @@ fn draw(state: u64) -> u64 {
     state % MODULUS * FACTOR % MODULUS
 }
 
-// Draws for one network: a need and a set of lines for each bus, and one to go on from.
-pub const DRAWS: usize = 2 * MOST + 1;
+// Draws for one network: a need, a set of lines and a weight for each bus, and one to go on from.
+pub const DRAWS: usize = 3 * MOST + 1;
 
 pub fn draws(seed: u64) -> [u64; DRAWS] {
     let mut draws = [0u64; DRAWS];
@@ -103,6 +105,18 @@ fn needs(draws: &[u64; DRAWS], neighbours: &[u32; MOST]) -> [u8; MOST] {
     needs
 }
 
+// The highest weight.
+pub const WEIGHT: u16 = 1000;
+
+// Weights from 1 to the highest.
+fn weights(draws: &[u64; DRAWS]) -> [u16; MOST] {
+    let mut weights = [0u16; MOST];
+    for bus in 0..MOST {
+        weights[bus] = (1 + draws[2 * MOST + bus] % WEIGHT as u64) as u16;
+    }
+    weights
+}
+
 pub fn chosen(buses: usize, draws: &[u64; DRAWS]) -> Small
     requires { ⌜ buses ≤ most ⌝ }
     ensures { λ r. ⌜ r .buses ≡ buses ⌝ }
@@ -110,9 +124,11 @@ pub fn chosen(buses: usize, draws: &[u64; DRAWS]) -> Small
     let lower = lower(draws);
     let neighbours = neighbours(&lower, buses);
     let needs = needs(draws, &neighbours);
+    let weights = weights(draws);
     Small {
         buses,
         needs,
+        weights,
         neighbours,
     }
 }
@@ -123,11 +139,44 @@ pub fn raised(small: Small, bus: usize) -> Small
     ensures { λ r. ⌜ r .buses ≡ small .buses ⌝ }
 {
     let neighbours = small.neighbours;
+    let weights = small.weights;
     let mut needs = small.needs;
     needs[bus] = (highest(neighbours[bus]) + 1) as u8;
     Small {
         buses: small.buses,
         needs,
+        weights,
         neighbours,
     }
+}
+
+// The same network with other weights.
+fn weighted(small: Small, weights: [u16; MOST]) -> Small
+    ensures { λ r. ⌜ r .buses ≡ small .buses ⌝ }
+{
+    let needs = small.needs;
+    let neighbours = small.neighbours;
+    Small {
+        buses: small.buses,
+        needs,
+        weights,
+        neighbours,
+    }
+}
+
+// The same network with weight 1 everywhere.
+pub fn unweighted(small: Small) -> Small
+    ensures { λ r. ⌜ r .buses ≡ small .buses ⌝ }
+{
+    weighted(small, [1u16; MOST])
+}
+
+// The same network with another weight at one bus.
+pub fn reweighted(small: Small, bus: usize, weight: u16) -> Small
+    requires { ⌜ bus < most ⌝ }
+    ensures { λ r. ⌜ r .buses ≡ small .buses ⌝ }
+{
+    let mut weights = small.weights;
+    weights[bus] = weight;
+    weighted(small, weights)
 }

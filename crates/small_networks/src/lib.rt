@@ -10,10 +10,11 @@ pub mod table;
 // Buses of the largest network.
 pub const MOST: usize = 7;
 
-// A network: how many buses, the need of each, and the set of the neighbours of each.
+// A network: how many buses, the need and the weight of each, and the set of the neighbours of each.
 pub struct Small {
     pub buses: usize,
     pub needs: [u8; MOST],
+    pub weights: [u16; MOST],
     pub neighbours: [u32; MOST],
 }
 

@@ -5,8 +5,8 @@ use crate::MOST;
 use crate::Small;
 use crate::has;
 
-// Entries for the bus count, the needs, the row starts, and as many neighbours of each bus as there are buses.
-pub const ENTRIES: usize = 1 + MOST + (MOST + 1) + MOST * MOST;
+// Entries for the bus count, the needs, the weights, the row starts, and as many neighbours of each bus as there are buses.
+pub const ENTRIES: usize = 1 + MOST + MOST + (MOST + 1) + MOST * MOST;
 
 // Lays the bus count and the needs.
 fn lay_needs(table: &mut [u16; ENTRIES], small: Small)
@@ -16,6 +16,17 @@ fn lay_needs(table: &mut [u16; ENTRIES], small: Small)
     let needs = small.needs;
     for bus in 0..small.buses {
         table[1 + bus] = needs[bus] as u16;
+    }
+}
+
+// Lays the weights, behind the needs.
+fn lay_weights(table: &mut [u16; ENTRIES], small: Small)
+    requires { ⌜ small .buses ≤ most ⌝ }
+{
+    let first = 1 + small.buses;
+    let weights = small.weights;
+    for bus in 0..small.buses {
+        table[first + bus] = weights[bus];
     }
 }
 
@@ -39,7 +50,7 @@ fn lay_row(table: &mut [u16; ENTRIES], small: Small, bus: usize, start: usize) -
 fn lay_rows(table: &mut [u16; ENTRIES], small: Small)
     requires { ⌜ small .buses ≤ most ⌝ }
 {
-    let starts = 1 + small.buses;
+    let starts = 1 + 2 * small.buses;
     let links = starts + small.buses + 1;
     let mut place = links;
     for bus in 0..small.buses {
@@ -53,6 +64,7 @@ pub fn table(small: Small) -> [u16; ENTRIES]
 {
     let mut table = [0u16; ENTRIES];
     lay_needs(&mut table, small);
+    lay_weights(&mut table, small);
     lay_rows(&mut table, small);
     table
 }

@@ -6,10 +6,10 @@ use Rattle.order_average.proofs.wrong_numerator.Statement.{statement}
 use Rattle.order_average.proofs.wrong_numerator.Tie as tie
 
 abbrev Inv-loop : tie.InvT-loop
-Inv-loop bus over neighbours with-bus sum₀ other₀ other-end sum other = (other ≤ other-end) × (other-end ≤ most)
+Inv-loop bus over neighbours weights with-bus sum₀ other₀ other-end sum other = (other ≤ other-end) × (other-end ≤ most)
 
 abbrev μ-loop : tie.MeasureT-loop
-μ-loop bus over neighbours with-bus sum₀ other₀ other-end sum other = other-end - other
+μ-loop bus over neighbours weights with-bus sum₀ other₀ other-end sum other = other-end - other
 
 pub wrong-numerator-spec : {M : Type 1} → statement M
 wrong-numerator-spec =
@@ -28,6 +28,9 @@ wrong-numerator-spec =
     (λ c. search needs)
     (λ c. search needs)
     (λ c. search needs)
+    (λ c. search needs)
+    (λ c. search needs)
+    (λ c κs. search needs)
     (λ c κs. search needs)
     (λ c. search needs)
     (λ c. search needs)

@@ -6,10 +6,10 @@ use Rattle.small_networks.proofs.average.all_orders.Statement.{statemen
 use Rattle.small_networks.proofs.average.all_orders.Tie as tie
 
 abbrev Inv-loop : tie.InvT-loop
-Inv-loop small buses sums₀ uneven₀ orders₀ sums uneven orders = (uneven ≤ orders) × (orders ≤ 10000)
+Inv-loop small buses total sums₀ uneven₀ orders₀ sums uneven orders = (uneven ≤ orders) × (orders ≤ 10000)
 
 abbrev μ-loop : tie.MeasureT-loop
-μ-loop small buses sums₀ uneven₀ orders₀ sums uneven orders = 10000 - orders
+μ-loop small buses total sums₀ uneven₀ orders₀ sums uneven orders = 10000 - orders
 
 loop-again : tie.Need-loop-again Inv-loop μ-loop
 loop-again c = ⊎-elim (λ w. search needs) (λ w. search needs) (c .if2 .came)
@@ -21,6 +21,7 @@ all-orders-spec =
     Inv-loop
     μ-loop
     (λ c. search needs)
+    (λ c κs. search needs)
     (λ c. search needs)
     (λ c κs. search needs)
     (λ c κs. search needs)

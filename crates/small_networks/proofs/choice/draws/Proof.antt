@@ -6,10 +6,10 @@ use Rattle.small_networks.proofs.choice.draws.Statement.{statement}
 use Rattle.small_networks.proofs.choice.draws.Tie as tie
 
 abbrev Inv-loop : tie.InvT-loop
-Inv-loop seed draws₀ state₀ k₀ draws state k = k ≤ 2 * most + 1
+Inv-loop seed draws₀ state₀ k₀ draws state k = k ≤ 3 * most + 1
 
 abbrev μ-loop : tie.MeasureT-loop
-μ-loop seed draws₀ state₀ k₀ draws state k = 2 * most + 1 - k
+μ-loop seed draws₀ state₀ k₀ draws state k = 3 * most + 1 - k
 
 pub draws-spec : {M : Type 1} → statement M
 draws-spec =

@@ -6,7 +6,7 @@ use Rattle.small_networks.proofs.table.lay_rows.Statement.{statement}
 use Rattle.small_networks.proofs.table.lay_rows.Tie as tie
 
 abbrev Inv-loop : tie.InvT-loop
-Inv-loop table₀ small starts links place₀ bus₀ bus-end table place bus = (bus ≤ bus-end) × (bus-end ≤ most) × (starts ≤ 1 + most) × (links ≤ 2 * most + 2) × (links ≤ place) × (place ≤ links + most * bus)
+Inv-loop table₀ small starts links place₀ bus₀ bus-end table place bus = (bus ≤ bus-end) × (bus-end ≤ most) × (starts ≤ 1 + 2 * most) × (links ≤ 3 * most + 2) × (links ≤ place) × (place ≤ links + most * bus)
 
 abbrev μ-loop : tie.MeasureT-loop
 μ-loop table₀ small starts links place₀ bus₀ bus-end table place bus = bus-end - bus
@@ -17,6 +17,7 @@ lay-rows-spec =
     (tie.spec
     Inv-loop
     μ-loop
+    (λ c. search needs)
     (λ c. search needs)
     (λ c. search needs)
     (λ c. search needs)
