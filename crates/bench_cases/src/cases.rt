@@ -1,7 +1,9 @@
-// The scope's bench cases that are not starred: a line for each call, printed from what it answers and leaves.
-ghost use Prim.Native.Nat.{_+_, _*_, _≤_};
+// The scope's bench cases that are not starred, as orders amend them, and cases of weights: a line for each call, printed from
+// what it answers and leaves.
+ghost use Prim.Native.Nat.{_+_, _*_, _≤_, _<_};
 ghost use lib.ListN.{length};
 use super::files::path_to;
+use super::files::weighted_path_to;
 use super::files::write_star;
 use super::text::say;
 use super::text::say_changed;
@@ -208,6 +210,52 @@ fn path_case(label: &[u8], end: u8, bytes: usize, lent: usize)
     say(b"\n");
 }
 
+// Path with weights, its second record to `end`: up to some byte of the weight count, the weights, of which bus 1 has the one
+// given, or a byte more.
+fn weights_case(label: &[u8], end: u8, count: usize, weight: usize, bytes: usize)
+    requires { ⌜ (count < 65536) × (weight < 65536) × (bytes ≤ 24) ⌝ }
+{
+    let file = weighted_path_to(end, count, weight);
+    let mut table = [MARK; ENTRIES];
+    say(label);
+    say_table(&file[0..bytes], &mut table);
+    say(b"\n");
+}
+
+fn weighted_shares() {
+    let file = weighted_path_to(2, 3, 5);
+    let mut table = [MARK; ENTRIES];
+    let mut numerators = [NUMERATOR_MARK; NUMERATORS];
+    say(b"weights 1, 5, 2, Read: ");
+    say_table(&file[0..23], &mut table);
+    say(b"\nweights 1, 5, 2, Shares: ");
+    say_shares(&table, &mut numerators);
+    say_number(b": ", numerators[0]);
+    say_number(b" ", numerators[1]);
+    say_number(b" ", numerators[2]);
+    say_number(
+        b", buses as in Share ",
+        agreeing(&table, &numerators[0..3]) as u64,
+    );
+    say(b"\n");
+}
+
+// A section of weights, cut short or wrong in each of its places; and with a wrong record, which is judged behind it.
+fn weight_section() {
+    weights_case(b"weights 1, 1000, 2: ", 2, 3, 1000, 23);
+    weights_case(b"weights 1, 1, 2 and one byte more: ", 2, 3, 1, 24);
+    weights_case(b"a weight count and no weights: ", 2, 3, 5, 17);
+    weights_case(b"weights without their last byte: ", 2, 3, 5, 22);
+    weights_case(b"weight count 2: ", 2, 2, 5, 23);
+    weights_case(b"weight count 4 and no weights: ", 2, 4, 5, 17);
+    weights_case(b"weight count 259: ", 2, 259, 5, 23);
+    weights_case(b"weight 0: ", 2, 3, 0, 23);
+    weights_case(b"weight 1001: ", 2, 3, 1001, 23);
+    weights_case(b"weight 0 and one byte more: ", 2, 3, 0, 24);
+    weights_case(b"weight 0, second record made 1, 1: ", 1, 3, 0, 23);
+    weights_case(b"weight 5, second record made 1, 1: ", 1, 3, 5, 23);
+}
+
 fn empty_table_case() {
     let mut numerators = [NUMERATOR_MARK; NUMERATORS];
     say(b"an empty slice given to Shares: ");
@@ -228,7 +276,9 @@ pub fn run() {
     path_case(b"second record made 1, 1: ", 1, 15, ENTRIES);
     path_case(b"second record made 1, 3: ", 3, 15, ENTRIES);
     path_case(b"second record made 1, 0: ", 0, 15, ENTRIES);
-    path_case(b"Path into 11 entries: ", 2, 15, 11);
-    path_case(b"Path into 12 entries: ", 2, 15, 12);
+    path_case(b"Path into 14 entries: ", 2, 15, 14);
+    path_case(b"Path into 15 entries: ", 2, 15, 15);
     empty_table_case();
+    weighted_shares();
+    weight_section();
 }

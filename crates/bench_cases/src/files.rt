@@ -18,6 +18,23 @@ fn write_word(file: &mut [u8], at: usize, number: usize)
     file[at + 1] = (number / 256) as u8;
 }
 
+// The same Path with a weight count, the weights 1, `weight` and 2, and a byte more.
+pub fn weighted_path_to(end: u8, count: usize, weight: usize) -> [u8; 24]
+    requires { ⌜ (count < 65536) × (weight < 65536) ⌝ }
+    ensures { λ r. ⌜ length r ≡ 24 ⌝ }
+{
+    let path = path_to(end);
+    let mut file = [0u8; 24];
+    for i in 0..15 {
+        file[i] = path[i];
+    }
+    write_word(&mut file, 15, count);
+    write_word(&mut file, 17, 1);
+    write_word(&mut file, 19, weight);
+    write_word(&mut file, 21, 2);
+    file
+}
+
 // The bus count, and needs of 1.
 fn write_buses(file: &mut [u8], buses: usize)
     requires { ⌜ (2 + buses ≤ length (now file)) × (buses < 65536) ⌝ }
