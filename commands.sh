@@ -34,9 +34,9 @@ open_input() { # FILE
 }
 
 # Sets `bytes` to the bytes of standard input, as decimal numbers. They are read once; a byte more than the largest file
-# has, 24,068, is enough to judge it, however many follow.
+# has, 25,094, is enough to judge it, however many follow.
 read_bytes() { # what the input is called
-    bytes=$(od -A n -v -t u1 -N 24069) || fail "od could not read $1"
+    bytes=$(od -A n -v -t u1 -N 25095) || fail "od could not read $1"
 }
 
 # Sets `escapes` to what printf %b writes these bytes from.
@@ -91,12 +91,14 @@ cause() { # NUMBER
     2) echo 'the bus count is 0 or above 512' ;;
     3) echo 'a need is 0 or above 24' ;;
     4) echo 'the line count is above 5,888' ;;
-    5) echo 'bytes follow the last record' ;;
+    5) echo 'bytes follow the last weight' ;;
     6) echo 'a record names a bus at or above the bus count, or one bus twice' ;;
     7) echo 'a bus has more than 23 different neighbours' ;;
     15) echo 'the first bus of a record is above its second, or a record is below the one before it' ;;
     17) echo "a need is above its bus's degree, and is not 1 at a bus without lines" ;;
     18) echo 'the network has no such line; lines are numbered from 0' ;;
+    19) echo 'the weight count, behind the records, is not the bus count' ;;
+    20) echo 'a weight is 0 or above 1,000' ;;
     *) echo 'docs/FORMAT.md says why' ;;
     esac
 }
