@@ -1,10 +1,10 @@
 /* Share sheets for recorder sites: the proved library share_sheet_c, for C and C++.
 
-   A network is lent as a line table: 16-bit numbers that give the bus count, the needs, where
-   each bus's row starts, and the neighbours of each bus in ascending order. share_sheet_read
-   makes one from the bytes of a network file; a caller may also build one in memory.
-   share_sheet_write makes a network file from either. Entries behind the table never matter.
-   docs/FORMAT.md explains file, table, shares and sheet.
+   A network is lent as a line table: 16-bit numbers that give the bus count, the needs, the
+   weights, where each bus's row starts, and the neighbours of each bus in ascending order.
+   share_sheet_read makes one from the bytes of a network file; a caller may also build one in
+   memory. share_sheet_write makes a network file from either. Entries behind the table never
+   matter. docs/FORMAT.md explains file, table, shares and sheet.
 
    Rules for all pointers, which no function tests: a pointer is not NULL, not even where its
    length is 0; it is aligned for its type and valid for all entries of its length; and what is
@@ -19,7 +19,7 @@
      2  the bus count is 0 or above the limit
      3  a need is 0 or above the limit
      4  the line count is above the limit
-     5  bytes follow the last record
+     5  bytes follow the last weight
      6  a record names a bus that the network does not have, or one bus twice
      7  a bus has more different neighbours than the limit
      8  (no call gives it any more; the number stays free)
@@ -33,8 +33,10 @@
     16  too few bytes are lent for the file
     17  a need is above its bus's degree, and is not 1 at a bus without lines
     18  the network does not have the line
+    19  the weight count, behind the records, is not the bus count
+    20  a weight is 0 or above the limit
 
-   No call allocates memory or keeps anything for the next one. share_sheet_whole takes some 30 KB
+   No call allocates memory or keeps anything for the next one. share_sheet_whole takes some 33 KB
    of stack, share_sheet_outage some 9, each other call less than 8. Calls may run at the same
    time, as long as none writes what another uses. */
 
@@ -51,19 +53,22 @@ extern "C" {
 /* Reads a network file: stores its line table at the front of `table` and gives the counts of
    buses and of lines, n and m. Each record names its lower bus first, and records ascend by first
    bus, then by second. Equal records are parallel circuits and make one line, so m counts
-   different pairs. The table takes 2n + 2 + 2m entries; later ones are left as they were. Refused
-   with 1 to 7, 15 and 17 because of the file, then with 10 if `table` is shorter than that. The
-   counts are judged in file order (4 limits the records), and after them all records for 6, then
-   all for 15, then all for 7, and then the needs for 17. */
+   different pairs. Behind the records a file may have a weight for each bus; if it ends there, each
+   has weight 1. The table takes 3n + 2 + 2m entries; later ones are left as they were. Refused
+   with 1 to 7, 15, 17, 19 and 20 because of the file, then with 10 if `table` is shorter than
+   that. The sections are judged in file order (4 limits the records; behind them come the weight
+   count, 19, the weights, 20, and then 5), and after them all records for 6, then all for 15, then
+   all for 7, and then the needs for 17. */
 uint32_t share_sheet_read(const uint8_t *file, size_t file_len, uint16_t *table, size_t table_len,
                           size_t *buses, size_t *lines);
 
 /* Writes the network file of a table at the front of `file`, and gives its bytes: the bus count,
    the needs, the line count m, and a record for each pair of neighbours, the lower bus first,
-   ascending by first bus, then by second. The file takes 4 + n + 4m bytes; later ones are left as
+   ascending by first bus, then by second; and, unless all weights are 1, the bus count again and
+   the weights. The file takes 4 + n + 4m bytes, and 2 + 2n more for weights; later ones are left as
    they were. Refused with 11, then with 16 if `file` is shorter than that. Reading the file gives
-   the same table. A file that was read and has no parallel circuits is given back byte by byte;
-   of equal records one is left. */
+   the same table. A file that was read is given back byte by byte if it has no parallel circuits,
+   of which one record is left, and no weights that are all 1, which are left out. */
 uint32_t share_sheet_write(const uint16_t *table, size_t table_len, uint8_t *file, size_t file_len,
                            size_t *bytes);
 
@@ -78,8 +83,9 @@ uint32_t share_sheet_row(const uint16_t *table, size_t table_len, size_t bus, si
                          size_t *entries);
 
 /* Stores the numerators of all n buses, bus 0 first, and gives the denominator that they are all
-   over. Later entries of `numerators` are left as they were. Refused with 11, then with 12 if
-   fewer than n entries are lent. */
+   over. They add up to the total weight of the buses times the denominator. Later entries of
+   `numerators` are left as they were. Refused with 11, then with 12 if fewer than n entries are
+   lent. */
 uint32_t share_sheet_shares(const uint16_t *table, size_t table_len, uint64_t *numerators,
                             size_t numerators_len, uint64_t *over);
 

@@ -1,5 +1,5 @@
 //! Share sheets for recorder sites: for every bus of a power network, its fair part (Shapley
-//! value) of what recorders at all buses together can see.
+//! value) of what recorders at all buses together can see. A bus that is seen counts by its weight.
 //!
 //! The calls are those of the proved library share_sheet_c, made safe. A network is lent as a
 //! *line table*: a slice of `u16` that [`read`] fills from a network file, or that the caller
@@ -42,7 +42,7 @@ use std::fmt;
 /// use share_sheet::{read, Counts};
 ///
 /// let file = [2, 0, 1, 1, 1, 0, 0, 0, 1, 0];
-/// assert_eq!(read(&file, &mut [0; 8]), Ok(Counts { buses: 2, lines: 1 }));
+/// assert_eq!(read(&file, &mut [0; 10]), Ok(Counts { buses: 2, lines: 1 }));
 /// ```
 #[derive(Clone, Copy, Debug, PartialEq, Eq, Hash)]
 pub struct Counts {
@@ -129,13 +129,15 @@ pub fn limits() -> Limits {
 /// Reads a network file: stores its line table at the front of `table`, and gives the counts.
 ///
 /// Each record names its lower bus first, and records ascend by first bus, then by second. Equal
-/// records are parallel circuits and make one line. A network of n buses and m lines takes
-/// 2n + 2 + 2m entries; later ones are left as they were.
+/// records are parallel circuits and make one line. Behind the records a file may have a weight
+/// for each bus; if it ends there, each bus has weight 1. A network of n buses and m lines takes
+/// 3n + 2 + 2m entries; later ones are left as they were.
 ///
 /// Refused because of the file with [`FileTooShort`](Refusal::FileTooShort),
 /// [`BusCount`](Refusal::BusCount), [`Need`](Refusal::Need), [`LineCount`](Refusal::LineCount),
-/// which limits the records, or [`FileTooLong`](Refusal::FileTooLong), in file order; then, each
-/// over all records before the next, with [`LineEnds`](Refusal::LineEnds),
+/// which limits the records, [`WeightCount`](Refusal::WeightCount), [`Weight`](Refusal::Weight), or
+/// [`FileTooLong`](Refusal::FileTooLong), in file order; then, each over all records before the
+/// next, with [`LineEnds`](Refusal::LineEnds),
 /// [`OutOfOrder`](Refusal::OutOfOrder) or [`DegreeTooHigh`](Refusal::DegreeTooHigh); then with
 /// [`NeedAboveDegree`](Refusal::NeedAboveDegree); then with
 /// [`TableTooShort`](Refusal::TableTooShort). A refused call leaves the network that `table` held.
@@ -144,19 +146,24 @@ pub fn limits() -> Limits {
 /// use share_sheet::{read, Refusal};
 ///
 /// let file = [3, 0, 1, 1, 1, 2, 0, 0, 0, 1, 0, 1, 0, 2, 0];
-/// let mut table = [0; 12];
+/// let mut table = [0; 15];
 /// let counts = read(&file, &mut table)?;
 /// assert_eq!((counts.buses, counts.lines), (3, 2));
-/// // n, the needs, the row starts, and the rows of buses 0, 1 and 2
-/// assert_eq!(table, [3, 1, 1, 1, 0, 1, 3, 4, 1, 0, 2, 1]);
+/// // n, the needs, the weights, the row starts, and the rows of buses 0, 1 and 2
+/// assert_eq!(table, [3, 1, 1, 1, 1, 1, 1, 0, 1, 3, 4, 1, 0, 2, 1]);
 ///
-/// assert_eq!(read(&file, &mut table[..11]), Err(Refusal::TableTooShort));
+/// assert_eq!(read(&file, &mut table[..14]), Err(Refusal::TableTooShort));
+///
+/// // the same with weights 1, 5 and 2
+/// let weighted = [&file[..], &[3, 0, 1, 0, 5, 0, 2, 0]].concat();
+/// read(&weighted, &mut table)?;
+/// assert_eq!(table, [3, 1, 1, 1, 1, 5, 2, 0, 1, 3, 4, 1, 0, 2, 1]);
 ///
 /// // two circuits between buses 0 and 1, each a record 0, 1; bus 2 has no line
 /// let parallel = [3, 0, 1, 1, 1, 2, 0, 0, 0, 1, 0, 0, 0, 1, 0];
 /// let counts = read(&parallel, &mut table)?;
 /// assert_eq!((counts.buses, counts.lines), (3, 1));
-/// assert_eq!(table[..10], [3, 1, 1, 1, 0, 1, 2, 2, 1, 0]);
+/// assert_eq!(table[..13], [3, 1, 1, 1, 1, 1, 1, 0, 1, 2, 2, 1, 0]);
 ///
 /// // the second record names its higher bus first: 1, 0
 /// let turned = [3, 0, 1, 1, 1, 2, 0, 0, 0, 1, 0, 1, 0, 0, 0];
@@ -188,12 +195,14 @@ pub fn read(file: &[u8], table: &mut [u16]) -> Result<Counts, Refusal> {
 /// Writes the network file of a line table at the front of `file`, and gives its bytes.
 ///
 /// The file has the bus count, the needs, the line count, and a record for each pair of neighbours:
-/// the lower bus first, ascending by first bus, then by second. A network of n buses and m lines
-/// takes 4 + n + 4m bytes; later ones are left as they were. Refused with
+/// the lower bus first, ascending by first bus, then by second. Unless all weights are 1, the bus
+/// count again and the weights follow. A network of n buses and m lines takes 4 + n + 4m bytes, and
+/// 2 + 2n more for weights; later ones are left as they were. Refused with
 /// [`NoNetwork`](Refusal::NoNetwork), then with [`BytesTooShort`](Refusal::BytesTooShort).
 ///
-/// [`read`] makes the same table from the file. A file that was read and has no parallel circuits
-/// is given back byte by byte; of equal records one is left.
+/// [`read`] makes the same table from the file. A file that was read is given back byte by byte if
+/// it has no parallel circuits, of which one record is left, and no weights that are all 1, which
+/// are left out.
 ///
 /// ```
 /// use share_sheet::{limits, read, write, Refusal};
@@ -205,15 +214,20 @@ pub fn read(file: &[u8], table: &mut [u16]) -> Result<Counts, Refusal> {
 /// let bytes = write(&table, &mut file)?;
 /// assert_eq!(file[..bytes], path);
 ///
-/// // built in memory: n, the needs, the row starts, and the rows of buses 0 to 3
-/// let built = [4, 1, 2, 1, 2, 0, 1, 3, 4, 6, 3, 2, 3, 1, 0, 1];
-/// let mut file = [0; 20];
+/// // built in memory: n, the needs, the weights, the row starts, and the rows of buses 0 to 3
+/// let mut built = [4, 1, 2, 1, 2, 1, 1, 1, 1, 0, 1, 3, 4, 6, 3, 2, 3, 1, 0, 1];
+/// let mut file = [0; 30];
 /// assert_eq!(write(&built, &mut file), Ok(20));
 /// // the records, from byte 8 on, join 0 and 3, 1 and 2, 1 and 3
-/// assert_eq!(file, [4, 0, 1, 2, 1, 2, 3, 0, 0, 0, 3, 0, 1, 0, 2, 0, 1, 0, 3, 0]);
+/// assert_eq!(file[..20], [4, 0, 1, 2, 1, 2, 3, 0, 0, 0, 3, 0, 1, 0, 2, 0, 1, 0, 3, 0]);
 ///
-/// assert_eq!(write(&built, &mut file[..19]), Err(Refusal::BytesTooShort));
-/// assert_eq!(write(&built[..15], &mut []), Err(Refusal::NoNetwork));
+/// // bus 3 with weight 300: the weights follow, behind their count
+/// built[8] = 300;
+/// assert_eq!(write(&built, &mut file), Ok(30));
+/// assert_eq!(file[20..], [4, 0, 1, 0, 1, 0, 1, 0, 44, 1]);
+///
+/// assert_eq!(write(&built, &mut file[..29]), Err(Refusal::BytesTooShort));
+/// assert_eq!(write(&built[..19], &mut []), Err(Refusal::NoNetwork));
 /// # Ok::<(), Refusal>(())
 /// ```
 pub fn write(table: &[u16], file: &mut [u8]) -> Result<usize, Refusal> {
@@ -239,10 +253,10 @@ pub fn write(table: &[u16], file: &mut [u8]) -> Result<usize, Refusal> {
 /// ```
 /// use share_sheet::{degree, Refusal};
 ///
-/// let path = [3, 1, 1, 1, 0, 1, 3, 4, 1, 0, 2, 1];
+/// let path = [3, 1, 1, 1, 1, 1, 1, 0, 1, 3, 4, 1, 0, 2, 1];
 /// assert_eq!(degree(&path, 1), Ok(2));
 /// assert_eq!(degree(&path, 3), Err(Refusal::NoSuchBus));
-/// assert_eq!(degree(&path[..11], 1), Err(Refusal::NoNetwork));
+/// assert_eq!(degree(&path[..14], 1), Err(Refusal::NoNetwork));
 /// ```
 pub fn degree(table: &[u16], bus: usize) -> Result<usize, Refusal> {
     let mut degree = 0;
@@ -260,8 +274,8 @@ pub fn degree(table: &[u16], bus: usize) -> Result<usize, Refusal> {
 /// ```
 /// use share_sheet::{row, Refusal};
 ///
-/// let path = [3, 1, 1, 1, 0, 1, 3, 4, 1, 0, 2, 1];
-/// assert_eq!(row(&path, 1), Ok(&path[9..11]));
+/// let path = [3, 1, 1, 1, 1, 1, 1, 0, 1, 3, 4, 1, 0, 2, 1];
+/// assert_eq!(row(&path, 1), Ok(&path[12..14]));
 /// assert_eq!(row(&path, 1), Ok(&[0, 2][..]));
 /// assert_eq!(row(&path, 3), Err(Refusal::NoSuchBus));
 /// assert_eq!(row(&path, 3).unwrap_or_default(), &[]);
@@ -277,18 +291,25 @@ pub fn row(table: &[u16], bus: usize) -> Result<&[u16], Refusal> {
 
 /// Stores the numerators of all buses, bus 0 first, and gives the denominator that they are over.
 ///
-/// Numerators behind those of the n buses are left as they were. The n numerators add up to n
-/// times the denominator. Refused with [`NoNetwork`](Refusal::NoNetwork), then with
+/// Numerators behind those of the n buses are left as they were. The n numerators add up to the
+/// total weight of the buses times the denominator. Refused with
+/// [`NoNetwork`](Refusal::NoNetwork), then with
 /// [`NumeratorsTooShort`](Refusal::NumeratorsTooShort).
 ///
 /// ```
 /// use share_sheet::{shares, Refusal};
 ///
-/// let path = [3, 1, 1, 1, 0, 1, 3, 4, 1, 0, 2, 1];
+/// let path = [3, 1, 1, 1, 1, 1, 1, 0, 1, 3, 4, 1, 0, 2, 1];
 /// let mut numerators = [0; 4];
 /// assert_eq!(shares(&path, &mut numerators), Ok(6));
 /// assert_eq!(numerators, [5, 8, 5, 0]);
 /// assert_eq!(shares(&path, &mut numerators[..2]), Err(Refusal::NumeratorsTooShort));
+///
+/// // with weights 1, 5 and 2 behind the needs
+/// let weighted = [3, 1, 1, 1, 1, 5, 2, 0, 1, 3, 4, 1, 0, 2, 1];
+/// assert_eq!(shares(&weighted, &mut numerators), Ok(6));
+/// assert_eq!(numerators, [13, 19, 16, 0]);
+/// assert_eq!(numerators.iter().sum::<u64>(), (1 + 5 + 2) * 6);
 /// ```
 pub fn shares(table: &[u16], numerators: &mut [u64]) -> Result<u64, Refusal> {
     let mut over = 0;
@@ -313,7 +334,7 @@ pub fn shares(table: &[u16], numerators: &mut [u64]) -> Result<u64, Refusal> {
 /// ```
 /// use share_sheet::{cancel, share, Refusal};
 ///
-/// let path = [3, 1, 1, 1, 0, 1, 3, 4, 1, 0, 2, 1];
+/// let path = [3, 1, 1, 1, 1, 1, 1, 0, 1, 3, 4, 1, 0, 2, 1];
 /// let middle = share(&path, 1)?;
 /// assert_eq!(middle.to_string(), "8/6");
 /// assert_eq!(cancel(middle.numerator, middle.denominator)?.to_string(), "4/3");
@@ -355,7 +376,7 @@ pub fn share(table: &[u16], bus: usize) -> Result<Fraction, Refusal> {
 /// use share_sheet::{outage, Refusal};
 ///
 /// // three buses in a row; line 0 joins buses 0 and 1, line 1 joins 1 and 2
-/// let path = [3, 1, 1, 1, 0, 1, 3, 4, 1, 0, 2, 1];
+/// let path = [3, 1, 1, 1, 1, 1, 1, 0, 1, 3, 4, 1, 0, 2, 1];
 /// let mut changes = [0; 4];
 /// assert_eq!(outage(&path, 0, &mut changes), Ok(6));
 /// // without it the numerators are 6, 6, 6; with it they are 5, 8, 5
@@ -418,7 +439,7 @@ pub fn cancel(numerator: u64, denominator: u64) -> Result<Fraction, Refusal> {
 /// ```
 /// use share_sheet::{sheet_line, Refusal};
 ///
-/// let path = [3, 1, 1, 1, 0, 1, 3, 4, 1, 0, 2, 1];
+/// let path = [3, 1, 1, 1, 1, 1, 1, 0, 1, 3, 4, 1, 0, 2, 1];
 /// let mut text = [b'-'; 24];
 /// assert_eq!(sheet_line(&path, 2, &mut text), Ok(12));
 /// assert_eq!(&text, b"1 1 2 8 4/3\n------------");
@@ -451,7 +472,7 @@ pub fn sheet_line(table: &[u16], line: usize, text: &mut [u8]) -> Result<usize, 
 /// use share_sheet::{whole_sheet, Refusal};
 ///
 /// // one bus without lines
-/// let alone = [1, 1, 0, 0];
+/// let alone = [1, 1, 1, 0, 0];
 /// let mut text = [b'-'; 40];
 /// assert_eq!(whole_sheet(&alone, &mut text), Ok(35));
 /// assert_eq!(&text, b"buses 1 lines 0 over 1\n0 1 0 1 1/1\n-----");

@@ -100,9 +100,9 @@ mod tests {
 
     /// Three buses in a row, each with need 1.
     const PATH: [u8; 15] = [3, 0, 1, 1, 1, 2, 0, 0, 0, 1, 0, 1, 0, 2, 0];
-    const TABLE: [u16; 12] = [3, 1, 1, 1, 0, 1, 3, 4, 1, 0, 2, 1];
+    const TABLE: [u16; 15] = [3, 1, 1, 1, 1, 1, 1, 0, 1, 3, 4, 1, 0, 2, 1];
     /// Path's table with a wrong last entry: bus 2 names bus 0, which does not name it.
-    const NONE: [u16; 12] = [3, 1, 1, 1, 0, 1, 3, 4, 1, 0, 2, 0];
+    const NONE: [u16; 15] = [3, 1, 1, 1, 1, 1, 1, 0, 1, 3, 4, 1, 0, 2, 0];
 
     // No call gives these for Path.
     const A: usize = 0xA5A5_A5A5_A5A5_A5A5;
@@ -129,14 +129,14 @@ mod tests {
 
     #[test]
     fn counts_of_read() {
-        let mut table = [7; 12];
+        let mut table = [7; 15];
         assert_eq!(read(&PATH, &mut table), (0, 3, 2));
         assert_eq!(table, TABLE);
         assert_eq!(read(&PATH[..14], &mut table), (1, A, B));
         let mut wrong_end = PATH;
         wrong_end[13] = 3;
         assert_eq!(read(&wrong_end, &mut table), (6, A, B));
-        assert_eq!(read(&PATH, &mut table[..11]), (10, A, B));
+        assert_eq!(read(&PATH, &mut table[..14]), (10, A, B));
         assert_eq!(table, TABLE);
         // the pair of the first record again, turned round and as it stands
         let mut turned = PATH;
@@ -147,12 +147,23 @@ mod tests {
         needing[3] = 3;
         assert_eq!(read(&needing, &mut table), (17, A, B));
         assert_eq!(read(&needing, &mut []), (17, A, B));
+        // weights cut short, too few of them, one out of range, and a byte behind them
+        for (weights, refusal) in [
+            (&[3][..], 1),
+            (&[2, 0, 1, 0, 5, 0], 19),
+            (&[3, 0, 1, 0, 5, 0], 1),
+            (&[3, 0, 1, 0, 5, 0, 233, 3], 20),
+            (&[3, 0, 1, 0, 5, 0, 2, 0, 0], 5),
+        ] {
+            assert_eq!(read(&[&PATH, weights].concat(), &mut table), (refusal, A, B));
+        }
+        assert_eq!(table, TABLE);
         let mut repeat = PATH;
         repeat.copy_within(7..11, 11);
-        assert_eq!(read(&repeat, &mut table[..9]), (10, A, B));
+        assert_eq!(read(&repeat, &mut table[..12]), (10, A, B));
         assert_eq!(table, TABLE);
         assert_eq!(read(&repeat, &mut table), (0, 3, 1));
-        assert_eq!(table, [3, 1, 1, 1, 0, 1, 2, 2, 1, 0, 2, 1]);
+        assert_eq!(table, [3, 1, 1, 1, 1, 1, 1, 0, 1, 2, 2, 1, 0, 2, 1]);
     }
 
     #[test]
@@ -186,7 +197,7 @@ mod tests {
     fn bytes_of_every_file() {
         // SAFETY: these functions take nothing and look at nothing.
         let (written, read) = unsafe { (share_sheet_max_file(), share_sheet_max_bytes()) };
-        assert_eq!((written, read), (24_068, 24_068));
+        assert_eq!((written, read), (25_094, 25_094));
     }
 
     #[test]
@@ -206,7 +217,7 @@ mod tests {
             };
             (number, start, entries)
         };
-        for (bus, start, entries) in [(0, 8, 1), (1, 9, 2), (2, 11, 1)] {
+        for (bus, start, entries) in [(0, 11, 1), (1, 12, 2), (2, 14, 1)] {
             assert_eq!(degree(&TABLE, bus), (0, entries));
             assert_eq!(row(&TABLE, bus), (0, start, entries));
         }

@@ -27,7 +27,7 @@ pub enum Refusal {
     Need,
     /// The line count is above the limit.
     LineCount,
-    /// Bytes follow the last record.
+    /// Bytes follow the last weight.
     FileTooLong,
     /// A record names a bus that the network does not have, or one bus twice.
     LineEnds,
@@ -53,6 +53,10 @@ pub enum Refusal {
     NeedAboveDegree,
     /// The network does not have the line.
     NoSuchLine,
+    /// The weight count, behind the records, is not the bus count.
+    WeightCount,
+    /// A weight is 0 or above the limit.
+    Weight,
 }
 
 impl Refusal {
@@ -74,7 +78,7 @@ impl Refusal {
             Refusal::BusCount => "the bus count is 0 or above the limit",
             Refusal::Need => "a need is 0 or above the limit",
             Refusal::LineCount => "the line count is above the limit",
-            Refusal::FileTooLong => "bytes follow the last record",
+            Refusal::FileTooLong => "bytes follow the last weight",
             Refusal::LineEnds => {
                 "a record names a bus that the network does not have, or one bus twice"
             }
@@ -96,6 +100,8 @@ impl Refusal {
                 "a need is above its bus's degree, and is not 1 at a bus without lines"
             }
             Refusal::NoSuchLine => "the network does not have the line",
+            Refusal::WeightCount => "the weight count, behind the records, is not the bus count",
+            Refusal::Weight => "a weight is 0 or above the limit",
         }
     }
 }
@@ -129,6 +135,8 @@ pub(crate) fn accepted(status: u32) -> Result<(), Refusal> {
         16 => Refusal::BytesTooShort,
         17 => Refusal::NeedAboveDegree,
         18 => Refusal::NoSuchLine,
+        19 => Refusal::WeightCount,
+        20 => Refusal::Weight,
         _ => panic!("share_sheet_c returned {status}, which stands for no refusal"),
     })
 }
@@ -142,7 +150,7 @@ mod tests {
     fn every_number_has_a_refusal_and_words_of_its_own() {
         assert_eq!(accepted(0), Ok(()));
         let mut words = HashSet::new();
-        for number in (1..=18).filter(|&number| number != 8) {
+        for number in (1..=20).filter(|&number| number != 8) {
             let refused = accepted(number).unwrap_err();
             assert_eq!(u32::from(refused.number()), number);
             assert!(words.insert(refused.words()), "{refused}");
@@ -151,9 +159,9 @@ mod tests {
     }
 
     #[test]
-    #[should_panic(expected = "returned 19")]
+    #[should_panic(expected = "returned 21")]
     fn an_unknown_number_is_no_refusal() {
-        let _ = accepted(19);
+        let _ = accepted(21);
     }
 
     #[test]

@@ -99,7 +99,7 @@ impl Network {
         Self::ring("dense ring", buses, (1..half.min(12)).chain([half]))
     }
 
-    /// The network file, with need 1 at each bus.
+    /// The network file, with need 1 at each bus and without weights.
     fn file(&self, lines: &[(u16, u16)]) -> Vec<u8> {
         let mut file = self.buses.to_le_bytes().to_vec();
         file.extend(vec![1; self.buses.into()]);
@@ -141,10 +141,23 @@ impl Network {
         self.file(&lines)
     }
 
-    fn table(&self) -> Vec<u16> {
-        let mut table = vec![0; 2 * self.buses as usize + 2 + 2 * self.lines.len()];
-        share_sheet::read(&self.ascending(), &mut table).expect("the network is sound");
+    /// The file with weights at random behind its records.
+    fn weighted(&self) -> Vec<u8> {
+        let mut below = draws();
+        let mut file = self.ascending();
+        file.extend(self.buses.to_le_bytes());
+        file.extend((0..self.buses).flat_map(|_| (1 + below(1000) as u16).to_le_bytes()));
+        file
+    }
+
+    fn table_of(&self, file: &[u8]) -> Vec<u16> {
+        let mut table = vec![0; 3 * self.buses as usize + 2 + 2 * self.lines.len()];
+        share_sheet::read(file, &mut table).expect("the network is sound");
         table
+    }
+
+    fn table(&self) -> Vec<u16> {
+        self.table_of(&self.ascending())
     }
 
     /// Tables of the network with needs at random, each from 1 to the degree of its bus.
@@ -275,6 +288,24 @@ fn print_mixed_needs() {
     }
 }
 
+/// Files and tables with weights at random.
+fn print_weights() {
+    let most = limits().buses as u16;
+    for network in [Network::star(24), Network::sparse(most), Network::dense(most)] {
+        let file = network.weighted();
+        let table = network.table_of(&file);
+        let calls = [
+            ("Read, weights at random", measure_read(&file, None)),
+            ("Write, weights at random", measure_write(&table)),
+            ("Shares, weights at random", measure_shares(from_ref(&table))),
+            ("whole sheet, one call, weights at random", measure_whole_sheet(&table)),
+        ];
+        for (call, times) in calls {
+            print_call(&network.name, call, times);
+        }
+    }
+}
+
 /// Read of a file that is out of order from its front; the ends of all records are judged before.
 fn print_shuffled() {
     let network = Network::dense(limits().buses as u16);
@@ -291,8 +322,8 @@ fn print_repeats() {
     }
     let lines = vec![(0, 1)];
     let network = Network { name: format!("one line, {most} buses"), buses: most, lines };
-    // as many records as the largest file has, which has four bytes for each
-    let records = (limits().file_bytes - network.ascending().len()) / 4 + 1;
+    // as many records as the largest file has, which has four bytes for each, and weights besides
+    let records = (limits().file_bytes - network.weighted().len()) / 4 + 1;
     let call = format!("Read, {records} records of it");
     print_call(&network.name, &call, measure_read(&network.file(&vec![(0, 1); records]), None));
 }
@@ -325,8 +356,8 @@ fn print_growth(network: impl Fn(u16) -> Network) {
 fn main() {
     println!("The proved library against a plain reading of the scope in safe Rust (tests/plain).");
     println!("Times are nanoseconds, the best of many runs; library and plain reading alternate.");
-    println!("Slices are allocated before and not cleared between runs. Need 1 at each bus,");
-    println!("where nothing else is said.");
+    println!("Slices are allocated before and not cleared between runs. Need 1 and weight 1 at");
+    println!("each bus, and no weights in files, where nothing else is said.");
     println!();
     println!("| Network | Call | Library | Plain | Library / plain |");
     println!("|---|---|---|---|---|");
@@ -335,6 +366,7 @@ fn main() {
         print_calls(&network);
     }
     print_mixed_needs();
+    print_weights();
     print_shuffled();
     print_repeats();
     println!();
