@@ -1,4 +1,4 @@
-//! The bench cases of the scope, starred ones included, and of orders 1 to 6, through the boundary.
+//! The bench cases of the scope, starred ones included, and of orders 1 to 7, through the boundary.
 
 use share_sheet::{
     cancel, degree, limits, outage, read, row, share, shares, sheet_line, whole_sheet, write,
@@ -7,7 +7,7 @@ use share_sheet::{
 
 /// Three buses in a row, each with need 1.
 const PATH: [u8; 15] = [3, 0, 1, 1, 1, 2, 0, 0, 0, 1, 0, 1, 0, 2, 0];
-const PATH_TABLE: [u16; 12] = [3, 1, 1, 1, 0, 1, 3, 4, 1, 0, 2, 1];
+const PATH_TABLE: [u16; 15] = [3, 1, 1, 1, 1, 1, 1, 0, 1, 3, 4, 1, 0, 2, 1];
 
 /// A network file.
 fn file(needs: &[u8], lines: &[(u16, u16)]) -> Vec<u8> {
@@ -15,6 +15,14 @@ fn file(needs: &[u8], lines: &[(u16, u16)]) -> Vec<u8> {
     file.extend(needs);
     file.extend((lines.len() as u16).to_le_bytes());
     file.extend(lines.iter().flat_map(|&(a, b)| [a.to_le_bytes(), b.to_le_bytes()].concat()));
+    file
+}
+
+/// The same file with weights behind it.
+fn weighted(file: &[u8], weights: &[u16]) -> Vec<u8> {
+    let mut file = file.to_vec();
+    file.extend((weights.len() as u16).to_le_bytes());
+    file.extend(weights.iter().flat_map(|weight| weight.to_le_bytes()));
     file
 }
 
@@ -28,7 +36,7 @@ fn star(buses: u16) -> Vec<u8> {
 fn table(file: &[u8]) -> Vec<u16> {
     let mut table = vec![0; limits().entries];
     let Counts { buses, lines } = read(file, &mut table).unwrap();
-    table.truncate(2 * buses + 2 + 2 * lines);
+    table.truncate(3 * buses + 2 + 2 * lines);
     table
 }
 
@@ -122,7 +130,8 @@ fn needs_that_cannot_be_met() {
         ([1, 2, 1, 2], false),
         ([1, 24, 24, 24], false),
     ] {
-        let built = [&[4][..], &needs.map(u16::from), &[0, 1, 3, 4, 4, 1, 0, 2, 1]].concat();
+        let rows = [0, 1, 3, 4, 4, 1, 0, 2, 1];
+        let built = [&[4][..], &needs.map(u16::from), &[1; 4], &rows].concat();
         if holds {
             assert_eq!(table(&file(&needs, &lines)), built);
             scores(&file(&needs, &lines), 6, &[4, 10, 4, 6]);
@@ -191,7 +200,107 @@ fn short_and_long_files() {
     for length in 0..PATH.len() {
         refuses(&PATH[..length], 1);
     }
-    refuses(&[&PATH[..], &[0]].concat(), 5);
+    // a byte behind the records is the first of a weight count
+    refuses(&[&PATH[..], &[0]].concat(), 1);
+    refuses(&[&PATH[..], &[3]].concat(), 1);
+}
+
+/// Each term is multiplied by the weight of the bus that it concerns.
+#[test]
+fn weights() {
+    let path = weighted(&PATH, &[1, 5, 2]);
+    assert_eq!(table(&path), [3, 1, 1, 1, 1, 5, 2, 0, 1, 3, 4, 1, 0, 2, 1]);
+    scores(&path, 6, &[13, 19, 16]);
+    // weight 1 everywhere is no weight at all
+    assert_eq!(table(&weighted(&PATH, &[1; 3])), PATH_TABLE);
+    // bus 1 needs both neighbours: of its weight it has 4/6 itself, and gives each neighbour 1/6
+    let needing = file(&[1, 2, 1], &[(0, 1), (1, 2)]);
+    scores(&weighted(&needing, &[1, 5, 2]), 6, &[3 + 5, 20 + 3 + 6, 6 + 5]);
+    // bus 2 without lines has its own weight alone
+    scores(&weighted(&file(&[1; 3], &[(0, 1)]), &[1000, 1, 999]), 2, &[1001, 1001, 1998]);
+    // low byte first: 300 is 44 + 256
+    assert_eq!(weighted(&PATH, &[1, 300, 2])[19..21], [44, 1]);
+    scores(&weighted(&PATH, &[1, 300, 2]), 6, &[603, 609, 606]);
+    // the centre of a star with the highest weight: 23/24 of it go to the leaves
+    let mut weights = [1; 24];
+    weights[0] = 1000;
+    let mut numerators = vec![999 * 223_092_870 + 2_900_207_310; 24];
+    numerators[0] = 999 * 223_092_870 + 61_796_724_990;
+    scores(&weighted(&star(24), &weights), 5_354_228_880, &numerators);
+}
+
+/// The weights of a file are judged behind its records: count complete, 19, weights complete, 20,
+/// then 5; and all of that before the records themselves.
+#[test]
+fn weight_sections() {
+    let path = weighted(&PATH, &[1, 5, 2]);
+    for length in PATH.len() + 1..path.len() {
+        refuses(&path[..length], 1);
+    }
+    refuses(&[&path[..], &[0]].concat(), 5);
+    refuses(&[&path[..], &[7; 99]].concat(), 5);
+
+    for count in [0, 1, 2, 4, 5, 256 + 3, 3 * 256, 0xFFFF_u16] {
+        let behind = |weights: &[u8]| [&PATH[..], &count.to_le_bytes(), weights].concat();
+        refuses(&behind(&[1, 0, 5, 0, 2, 0]), 19);
+        // 19 comes before 1 and before 20
+        refuses(&behind(&[]), 19);
+        refuses(&behind(&[0; 6]), 19);
+    }
+    // as many weights as the count says
+    refuses(&weighted(&PATH, &[1, 5]), 19);
+    refuses(&weighted(&PATH, &[1, 5, 2, 1]), 19);
+    refuses(&weighted(&PATH, &[]), 19);
+
+    for wrong in [0, 1001, 1002, 1024, 0x8000, 0xFFFF] {
+        for bus in 0..3 {
+            let mut weights = [1, 5, 2];
+            weights[bus] = wrong;
+            let file = weighted(&PATH, &weights);
+            refuses(&file, 20);
+            // 20 comes before 5, and behind 1
+            refuses(&[&file[..], &[0]].concat(), 20);
+            refuses(&file[..file.len() - 1], 1);
+        }
+    }
+    scores(&weighted(&PATH, &[1000; 3]), 6, &[5_000, 8_000, 5_000]);
+
+    // a record with a wrong end, records out of order, 24 neighbours, a need that cannot be met
+    let star: Vec<_> = (1..25).map(|leaf| (0, leaf)).collect();
+    for (file, number) in [
+        (file(&[1; 3], &[(0, 1), (1, 3)]), 6),
+        (file(&[1; 3], &[(1, 2), (0, 1)]), 15),
+        (file(&[1; 25], &star), 7),
+        (file(&[1, 3, 1], &[(0, 1), (1, 2)]), 17),
+    ] {
+        let n = file[0] as usize;
+        refuses(&weighted(&file, &vec![5; n]), number);
+        refuses(&weighted(&file, &vec![5; n - 1]), 19);
+        refuses(&weighted(&file, &vec![0; n]), 20);
+        refuses(&[&weighted(&file, &vec![5; n])[..], &[1]].concat(), 5);
+        refuses(&[&file[..], &[n as u8]].concat(), 1);
+    }
+}
+
+/// A slice holds a network only if each weight is from 1 to 1,000.
+#[test]
+fn weights_of_tables() {
+    for (weight, holds) in
+        [(0, false), (1, true), (1000, true), (1001, false), (1256, false), (0xFFFF, false)]
+    {
+        for bus in 0..3 {
+            let mut built = PATH_TABLE;
+            built[4 + bus] = weight;
+            assert_eq!(degree(&built, 1).is_ok(), holds);
+            assert_eq!(row(&built, 1).is_ok(), holds);
+            assert_eq!(share(&built, 1).is_ok(), holds);
+            assert_eq!(shares(&built, &mut [0; 3]).is_ok(), holds);
+            assert_eq!(outage(&built, 1, &mut [0; 3]).is_ok(), holds);
+            assert_eq!(sheet_line(&built, 1, &mut [0; 99]).is_ok(), holds);
+            assert_eq!(whole_sheet(&built, &mut [0; 99]).is_ok(), holds);
+            assert_eq!(write(&built, &mut [0; 99]).is_ok(), holds);
+        }
+    }
 }
 
 #[test]
@@ -208,7 +317,8 @@ fn records() {
 fn order_of_records() {
     // by first bus, though the second is lower, and by second
     let lines = [(0, 3), (1, 2), (1, 3)];
-    assert_eq!(table(&file(&[1; 4], &lines)), [4, 1, 1, 1, 1, 0, 1, 3, 4, 6, 3, 2, 3, 1, 0, 1]);
+    let wanted = [4, 1, 1, 1, 1, 1, 1, 1, 1, 0, 1, 3, 4, 6, 3, 2, 3, 1, 0, 1];
+    assert_eq!(table(&file(&[1; 4], &lines)), wanted);
     refuses(&file(&[1; 4], &[(1, 2), (0, 3), (1, 3)]), 15);
     refuses(&file(&[1; 4], &[(0, 3), (1, 3), (1, 2)]), 15);
     refuses(&file(&[1; 4], &[(1, 3), (1, 2), (0, 3)]), 15);
@@ -232,7 +342,7 @@ fn order_of_records() {
 #[test]
 fn order_of_each_record() {
     let chain: Vec<_> = (0..99).map(|bus| (bus, bus + 1)).collect();
-    assert!(read(&file(&[1; 100], &chain), &mut [0; 400]).is_ok());
+    assert!(read(&file(&[1; 100], &chain), &mut [0; 500]).is_ok());
     for at in 0..chain.len() {
         if at > 0 {
             let mut swapped = chain.clone();
@@ -269,11 +379,11 @@ fn order_among_the_causes() {
 #[test]
 fn parallel_circuits() {
     let twice = file(&[1; 3], &[(0, 1), (0, 1)]);
-    let mut lent = [7; 12];
-    assert_eq!(read(&twice, &mut lent[..9]), Err(Refusal::TableTooShort));
-    assert_eq!(lent, [7; 12]);
-    assert_eq!(read(&twice, &mut lent[..10]), Ok(Counts { buses: 3, lines: 1 }));
-    assert_eq!(lent, [3, 1, 1, 1, 0, 1, 2, 2, 1, 0, 7, 7]);
+    let mut lent = [7; 15];
+    assert_eq!(read(&twice, &mut lent[..12]), Err(Refusal::TableTooShort));
+    assert_eq!(lent, [7; 15]);
+    assert_eq!(read(&twice, &mut lent[..13]), Ok(Counts { buses: 3, lines: 1 }));
+    assert_eq!(lent, [3, 1, 1, 1, 1, 1, 1, 0, 1, 2, 2, 1, 0, 7, 7]);
     scores(&twice, 2, &[2, 2, 2]);
 
     let path_in_many = [(0, 1), (0, 1), (0, 1), (1, 2), (1, 2), (1, 2), (1, 2)];
@@ -304,11 +414,11 @@ fn parallel_circuits_at_one_bus() {
 fn parallel_circuits_of_one_pair() {
     let mut records = vec![(0, 1); 5_888];
     let most = file(&[1; 2], &records);
-    let mut lent = [7; 10];
-    assert_eq!(read(&most, &mut lent[..7]), Err(Refusal::TableTooShort));
-    assert_eq!(lent, [7; 10]);
-    assert_eq!(read(&most, &mut lent[..8]), Ok(Counts { buses: 2, lines: 1 }));
-    assert_eq!(lent, [2, 1, 1, 0, 1, 2, 1, 0, 7, 7]);
+    let mut lent = [7; 12];
+    assert_eq!(read(&most, &mut lent[..9]), Err(Refusal::TableTooShort));
+    assert_eq!(lent, [7; 12]);
+    assert_eq!(read(&most, &mut lent[..10]), Ok(Counts { buses: 2, lines: 1 }));
+    assert_eq!(lent, [2, 1, 1, 1, 1, 0, 1, 2, 1, 0, 7, 7]);
     // the last of them turned round
     records[5_887] = (1, 0);
     refuses(&file(&[1; 2], &records), 15);
@@ -318,12 +428,18 @@ fn parallel_circuits_of_one_pair() {
 
 #[test]
 fn lent_tables() {
-    let mut lent = [7; 14];
-    assert_eq!(read(&PATH, &mut lent[..11]), Err(Refusal::TableTooShort));
-    assert_eq!(lent, [7; 14]);
-    assert_eq!(read(&PATH, &mut lent[..12]), Ok(Counts { buses: 3, lines: 2 }));
-    assert_eq!(lent[..12], PATH_TABLE);
-    assert_eq!(lent[12..], [7, 7]);
+    let mut lent = [7; 17];
+    assert_eq!(read(&PATH, &mut lent[..14]), Err(Refusal::TableTooShort));
+    assert_eq!(lent, [7; 17]);
+    assert_eq!(read(&PATH, &mut lent[..15]), Ok(Counts { buses: 3, lines: 2 }));
+    assert_eq!(lent[..15], PATH_TABLE);
+    assert_eq!(lent[15..], [7, 7]);
+    // the same entries with weights
+    let path = weighted(&PATH, &[1, 5, 2]);
+    assert_eq!(read(&path, &mut lent[..14]), Err(Refusal::TableTooShort));
+    assert_eq!(lent[..15], PATH_TABLE);
+    assert_eq!(read(&path, &mut lent[..15]), Ok(Counts { buses: 3, lines: 2 }));
+    assert_eq!(lent[4..7], [1, 5, 2]);
     // a bad record is the cause given, and not that the slice is too short
     refuses(&file(&[1; 3], &[(0, 1), (1, 3)]), 6);
 }
@@ -333,14 +449,25 @@ fn written_files() {
     writes(&PATH_TABLE, &PATH);
     // entries behind the table do not matter
     writes(&[&PATH_TABLE[..], &[1, 2, 3]].concat(), &PATH);
-    writes(&[1, 1, 0, 0], &[1, 0, 1, 0, 0]);
+    writes(&[1, 1, 1, 0, 0], &[1, 0, 1, 0, 0]);
     // built in memory
-    let built = [4, 1, 2, 1, 2, 0, 1, 3, 4, 6, 3, 2, 3, 1, 0, 1];
+    let built = [4, 1, 2, 1, 2, 1, 1, 1, 1, 0, 1, 3, 4, 6, 3, 2, 3, 1, 0, 1];
     writes(&built, &file(&[1, 2, 1, 2], &[(0, 3), (1, 2), (1, 3)]));
     // by numbers, and not by their bytes, of which the low one stands in front
     let high = [(0, 2), (0, 255), (0, 256), (1, 257), (2, 3), (255, 256), (256, 258), (257, 258)];
     let high = file(&[1; 512], &high);
     writes(&table(&high), &high);
+}
+
+/// Weights are written unless all are 1.
+#[test]
+fn written_weights() {
+    for weights in [[1, 5, 2], [2, 1, 1], [1, 2, 1], [1, 1, 2], [256, 1, 1], [1000, 1000, 1000]] {
+        let path = weighted(&PATH, &weights);
+        writes(&table(&path), &path);
+    }
+    writes(&table(&weighted(&PATH, &[1; 3])), &PATH);
+    writes(&[1, 1, 300, 0, 0], &[1, 0, 1, 0, 0, 1, 0, 44, 1]);
 }
 
 /// Of equal records one is written.
@@ -370,8 +497,23 @@ fn outages_of_path() {
         assert_eq!(outage(&PATH_TABLE, line, &mut lent[..2]), Err(Refusal::NoSuchLine));
     }
     // one bus has no line at all
-    assert_eq!(outage(&[1, 1, 0, 0], 0, &mut lent), Err(Refusal::NoSuchLine));
+    assert_eq!(outage(&[1, 1, 1, 0, 0], 0, &mut lent), Err(Refusal::NoSuchLine));
     assert_eq!(lent, [7; 3]);
+}
+
+/// The terms with and without the line are multiplied by the same weights.
+#[test]
+fn outages_with_weights() {
+    let path = weighted(&PATH, &[1, 5, 2]);
+    studies(&path, 0, 6, &[-7, 2, 5]);
+    // without line 1 bus 2 has 12 of its own, and buses 0 and 1 have 3 + 15 each
+    studies(&path, 1, 6, &[18 - 13, 18 - 19, 12 - 16]);
+    // bus 1 needs both neighbours: with one it has all of its weight, 30, and gives nothing
+    let needing = weighted(&file(&[1, 2, 1], &[(0, 1), (1, 2)]), &[1, 5, 2]);
+    studies(&needing, 0, 6, &[6 - 8, 36 - 29, 6 - 11]);
+    // weight 1 everywhere, and the highest everywhere
+    studies(&weighted(&PATH, &[1; 3]), 0, 6, &[1, -2, 1]);
+    studies(&weighted(&PATH, &[1000; 3]), 0, 6, &[1_000, -2_000, 1_000]);
 }
 
 /// A star loses the line to a leaf. Over 24 × 23 = 552 its centre has 277/24 or 6,371 before, and
@@ -422,7 +564,7 @@ fn no_network() {
     let mut numerators = [7; 3];
     let mut changes = [7; 3];
     let mut text = [7; 80];
-    for table in [&[][..], &PATH_TABLE[..11], &[0; 12]] {
+    for table in [&[][..], &PATH_TABLE[..14], &[0; 15]] {
         assert_eq!(degree(table, 0), Err(Refusal::NoNetwork));
         assert_eq!(row(table, 0), Err(Refusal::NoNetwork));
         assert_eq!(shares(table, &mut numerators), Err(Refusal::NoNetwork));
@@ -478,24 +620,40 @@ fn sheet() {
 
 #[test]
 fn lengths_that_are_enough() {
-    let most = Limits { buses: 512, entries: 12_802, file_bytes: 24_068, text_bytes: 25_137 };
+    let most = Limits { buses: 512, entries: 13_314, file_bytes: 25_094, text_bytes: 28_215 };
     assert_eq!(limits(), most);
-    // the largest file: each bus joined to the 11 nearest on either side and to the one across
+    // the largest file: each bus joined to the 11 nearest on either side and to the one across, and
+    // each with the highest weight
     let near = (0..512).flat_map(|bus| (1..=11).map(move |step| (bus, (bus + step) % 512)));
     let all = near.chain((0..256).map(|bus| (bus, bus + 256)));
     let mut lines: Vec<_> = all.map(|(a, b)| (a.min(b), a.max(b))).collect();
     lines.sort_unstable();
-    let largest = file(&[1; 512], &lines);
+    let unweighted = file(&[1; 512], &lines);
+    let largest = weighted(&unweighted, &[1000; 512]);
     assert_eq!(largest.len(), most.file_bytes);
     let mut table = vec![0; most.entries];
     assert_eq!(read(&largest, &mut table), Ok(Counts { buses: 512, lines: 5_888 }));
-    assert_eq!(read(&largest, &mut table[..12_801]), Err(Refusal::TableTooShort));
+    assert_eq!(read(&largest, &mut table[..13_313]), Err(Refusal::TableTooShort));
     writes(&table, &largest);
-    scores(&largest, 5_354_228_880, &[5_354_228_880; 512]);
+    scores(&largest, 5_354_228_880, &[5_354_228_880_000; 512]);
     let mut changes = vec![0; most.buses];
     assert_eq!(outage(&table, 5_887, &mut changes), Ok(5_354_228_880));
     assert_eq!(outage(&table, 5_888, &mut changes), Err(Refusal::NoSuchLine));
     let mut text = vec![0; most.text_bytes];
     assert!(whole_sheet(&table, &mut text).is_ok());
     refuses(&[&largest[..], &[0]].concat(), 5);
+
+    assert_eq!(read(&unweighted, &mut table), Ok(Counts { buses: 512, lines: 5_888 }));
+    writes(&table, &unweighted);
+    scores(&unweighted, 5_354_228_880, &[5_354_228_880; 512]);
+    refuses(&[&unweighted[..], &[0]].concat(), 1);
+}
+
+/// A line of large numbers: the centre of a star in which each bus has the highest weight.
+#[test]
+fn long_lines() {
+    let mut text = [0; 55];
+    let star = table(&weighted(&star(24), &[1000; 24]));
+    let line = sheet_line(&star, 1, &mut text).unwrap();
+    assert_eq!(text[..line], *b"0 1 23 61796724990000 34625/3\n");
 }

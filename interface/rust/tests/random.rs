@@ -16,7 +16,7 @@ const FRACTIONS: usize = 500_000;
 
 /// How often a call was accepted (entry 0) and refused with each number.
 #[derive(Clone, Copy, Default)]
-struct Tally([usize; 19]);
+struct Tally([usize; 21]);
 
 impl Tally {
     fn count<A>(&mut self, answer: &Result<A, u8>) {
@@ -51,12 +51,17 @@ struct Tallies {
     /// Buses, each time that a table is scored: the need is above the degree, as it is without
     /// lines, equal to it, 1, or between them.
     cases: [usize; 4],
+    /// Lines whose ends have different weights, each time that a table is scored.
+    unequal: usize,
 }
 
 impl Tallies {
     /// Counts the buses of a table that holds a network.
     fn count_cases(&mut self, table: &[u16]) {
-        let (needs, starts) = table[1..].split_at(table[0].into());
+        let n = table[0] as usize;
+        let (needs, behind) = table[1..].split_at(n);
+        let (weights, behind) = behind.split_at(n);
+        let (starts, links) = behind.split_at(n + 1);
         for (&need, start) in needs.iter().zip(starts.windows(2)) {
             let degree = start[1] - start[0];
             let case = match need {
@@ -67,11 +72,18 @@ impl Tallies {
             };
             self.cases[case] += 1;
         }
+        for (weight, start) in weights.iter().zip(starts.windows(2)) {
+            let row = &links[start[0] as usize..start[1] as usize];
+            let differs = |other: &&u16| weights[**other as usize] != *weight;
+            self.unequal += row.iter().filter(differs).count();
+        }
     }
 
     fn show_table_calls(&self) {
         println!("cases: {:?}", self.cases);
         assert!(self.cases.iter().all(|&times| times >= 100_000), "cases: {:?}", self.cases);
+        println!("neighbours of different weights: {}", self.unequal);
+        assert!(self.unequal >= 1_000_000, "{}", self.unequal);
         self.write.shows("write", &[11, 16]);
         self.degree.shows("degree", &[11, 13]);
         self.row.shows("row", &[11, 13]);
@@ -99,7 +111,7 @@ impl Repeats {
     /// Counts an accepted file, whose table is given.
     fn count(&mut self, file: &[u8], table: &[u16]) {
         let n = table[0] as usize;
-        let starts = &table[1 + n..];
+        let starts = &table[1 + 2 * n..];
         let Network { records, .. } = network(file);
         let mut standing = vec![0; n];
         for &(a, b) in &records {
@@ -123,12 +135,31 @@ impl Repeats {
     }
 }
 
-/// The needs and records of a file whose sections are sound.
+/// The numbers of two bytes that stand one behind another.
+fn numbers(bytes: &[u8]) -> Vec<u16> {
+    bytes.chunks_exact(2).map(|pair| u16::from_le_bytes([pair[0], pair[1]])).collect()
+}
+
+/// The needs, the records and what stands behind them, if a file has all of its records.
+fn parts(file: &[u8]) -> Option<(&[u8], Vec<(u16, u16)>, &[u8])> {
+    let number = |at: usize| Some(numbers(file.get(at..at + 2)?)[0] as usize);
+    let n = number(0)?;
+    let end = 4 + n + 4 * number(2 + n)?;
+    let records = numbers(file.get(4 + n..end)?);
+    let records = records.chunks_exact(2).map(|ends| (ends[0], ends[1])).collect();
+    Some((&file[2..2 + n], records, &file[end..]))
+}
+
+/// The needs, records and weights of a file whose sections are sound.
 fn network(file: &[u8]) -> Network {
-    let number = |at: usize| u16::from_le_bytes([file[at], file[at + 1]]);
-    let n = number(0) as usize;
-    let records = (4 + n..file.len()).step_by(4).map(|at| (number(at), number(at + 2))).collect();
-    Network { needs: file[2..2 + n].to_vec(), records }
+    let (needs, records, behind) = parts(file).expect("its sections are sound");
+    let weights = behind.get(2..).map(numbers);
+    Network { needs: needs.to_vec(), records, weights }
+}
+
+/// Whether a record names a bus that is not there, or one bus twice.
+fn has_wrong_end(n: usize, (a, b): (u16, u16)) -> bool {
+    a == b || a.max(b) as usize >= n
 }
 
 /// The places of records that name their higher bus first, or are below the one before them.
@@ -185,8 +216,8 @@ impl Orders {
         }
     }
 
-    fn count_wrong_end(&mut self, Network { needs, records }: &Network) {
-        let is_wrong = |&(a, b): &(u16, u16)| a == b || a.max(b) as usize >= needs.len();
+    fn count_wrong_end(&mut self, Network { needs, records, .. }: &Network) {
+        let is_wrong = |&record: &(u16, u16)| has_wrong_end(needs.len(), record);
         let wrong_end = records.iter().position(is_wrong).expect("6 has a cause");
         if let Some(&first) = out_of_order(records).first() {
             self.wrong_end_before += usize::from(wrong_end < first);
@@ -195,7 +226,7 @@ impl Orders {
     }
 
     fn count_out_of_order(&mut self, network: &Network) {
-        let Network { needs, records } = network;
+        let Network { needs, records, .. } = network;
         let places = out_of_order(records);
         let first = *places.first().expect("15 has a cause");
         self.first_alone += usize::from(places == [0]);
@@ -217,7 +248,8 @@ impl Orders {
         self.equal_apart += usize::from([first.max(1) - 1, first].iter().any(is_again));
 
         let is_crowded = |records: &[(u16, u16)]| {
-            let network = Network { needs: needs.clone(), records: records.to_vec() };
+            let (needs, records) = (needs.clone(), records.to_vec());
+            let network = Network { needs, records, weights: None };
             network.rows().iter().any(|row| row.len() > 23)
         };
         match (is_crowded(&records[..first]), is_crowded(records)) {
@@ -302,6 +334,141 @@ impl Needs {
         let not_met = [self.one_above, self.two_without_lines];
         assert!(met.iter().chain(&not_met).all(|&times| times >= 1_000), "{self:?}");
         assert!(self.out_of_order >= 100 && self.crowded >= 100, "{self:?}");
+    }
+}
+
+/// How often files had weights or not, and what was wrong behind the records.
+#[derive(Debug, Default)]
+struct Weights {
+    /// Accepted without weights; with weight 1 at each bus; with others; with the highest among them.
+    none: usize,
+    ones: usize,
+    others: usize,
+    highest: usize,
+    /// Refused with 1, since the file ends inside the weight count; inside the weights, before the
+    /// last byte of them and of the last byte alone.
+    count_cut: usize,
+    weights_cut: usize,
+    last_byte_cut: usize,
+    /// Refused with 19: the count is one below n; one above it; another. There are as many weights
+    /// as the count says; fewer than n, so that the file ends inside the weights besides.
+    one_below: usize,
+    one_above: usize,
+    other_count: usize,
+    as_counted: usize,
+    counted_and_cut: usize,
+    /// Refused with 20 because of one weight alone: it is 0; it is one above the highest; it is
+    /// that of the first of several buses; of the last.
+    zero: usize,
+    one_too_high: usize,
+    first_alone: usize,
+    last_alone: usize,
+    /// Refused with 20, and bytes follow the weights.
+    weight_and_more: usize,
+    /// Refused with 5: one byte follows the weights; several do.
+    byte_more: usize,
+    bytes_more: usize,
+    /// Refused because of what is behind the records, though a record has a wrong end.
+    wrong_end_too: usize,
+    /// Refused because of the records or the needs, with weights behind them.
+    sound_behind: usize,
+}
+
+impl Weights {
+    /// Counts a file, whose answer is given.
+    fn count<A>(&mut self, file: &[u8], answer: &Result<A, u8>) {
+        let Some((needs, records, behind)) = parts(file) else { return };
+        match answer {
+            Ok(_) => self.count_accepted(network(file).weights),
+            Err(_) if behind.is_empty() => {}
+            Err(6 | 7 | 15 | 17) => self.sound_behind += 1,
+            Err(number @ (1 | 5 | 19 | 20)) => {
+                let n = needs.len();
+                let wrong_end = records.iter().any(|&record| has_wrong_end(n, record));
+                self.wrong_end_too += usize::from(wrong_end);
+                match number {
+                    1 => self.count_cut(n, behind.len()),
+                    5 => self.count_more(behind.len() - (2 + 2 * n)),
+                    19 => self.count_wrong_count(n, numbers(behind)[0].into(), behind.len() - 2),
+                    _ => self.count_wrong_weight(n, &behind[2..]),
+                }
+            }
+            Err(_) => {}
+        }
+    }
+
+    fn count_accepted(&mut self, weights: Option<Vec<u16>>) {
+        match weights {
+            None => self.none += 1,
+            Some(weights) if weights.iter().all(|&weight| weight == 1) => self.ones += 1,
+            Some(weights) => {
+                self.others += 1;
+                self.highest += usize::from(weights.contains(&1000));
+            }
+        }
+    }
+
+    /// Counts a file that has so many bytes behind its records, and ends there too early.
+    fn count_cut(&mut self, n: usize, bytes: usize) {
+        self.count_cut += usize::from(bytes == 1);
+        self.weights_cut += usize::from(bytes > 1 && bytes < 1 + 2 * n);
+        self.last_byte_cut += usize::from(bytes == 1 + 2 * n);
+    }
+
+    /// Counts a file with so many bytes behind its weights.
+    fn count_more(&mut self, bytes: usize) {
+        self.byte_more += usize::from(bytes == 1);
+        self.bytes_more += usize::from(bytes > 1);
+    }
+
+    /// Counts a file with this weight count, and so many bytes behind it.
+    fn count_wrong_count(&mut self, n: usize, count: usize, bytes: usize) {
+        self.one_below += usize::from(count + 1 == n);
+        self.one_above += usize::from(count == n + 1);
+        self.other_count += usize::from(count.abs_diff(n) > 1);
+        self.as_counted += usize::from(bytes == 2 * count);
+        self.counted_and_cut += usize::from(bytes < 2 * n);
+    }
+
+    /// Counts a file with these bytes behind its weight count.
+    fn count_wrong_weight(&mut self, n: usize, bytes: &[u8]) {
+        let weights = numbers(&bytes[..2 * n]).into_iter().enumerate();
+        let mut wrong = weights.filter(|&(_, weight)| weight == 0 || weight > 1000);
+        let (bus, weight) = wrong.next().expect("20 has a cause");
+        if wrong.next().is_none() {
+            self.zero += usize::from(weight == 0);
+            self.one_too_high += usize::from(weight == 1001);
+            self.first_alone += usize::from(n > 1 && bus == 0);
+            self.last_alone += usize::from(n > 1 && bus == n - 1);
+        }
+        self.weight_and_more += usize::from(bytes.len() > 2 * n);
+    }
+
+    /// Each way occurred at least 100 times, and accepted files of each kind at least 2,000 times.
+    fn show(&self) {
+        println!("{self:?}");
+        let accepted = [self.none, self.ones, self.others, self.highest];
+        assert!(accepted.iter().all(|&times| times >= 2_000), "{self:?}");
+        let ways = [
+            self.count_cut,
+            self.weights_cut,
+            self.last_byte_cut,
+            self.one_below,
+            self.one_above,
+            self.other_count,
+            self.as_counted,
+            self.counted_and_cut,
+            self.zero,
+            self.one_too_high,
+            self.first_alone,
+            self.last_alone,
+            self.weight_and_more,
+            self.byte_more,
+            self.bytes_more,
+            self.wrong_end_too,
+            self.sound_behind,
+        ];
+        assert!(ways.iter().all(|&times| times >= 100), "{self:?}");
     }
 }
 
@@ -395,12 +562,13 @@ fn call_all(table: &[u16], random: &mut Random, tallies: &mut Tallies) {
         tallies.shares.count(&answer);
         if let Ok(over) = answer {
             tallies.count_cases(table);
-            assert_eq!(numerators[..n].iter().sum::<u64>(), n as u64 * over);
+            let total: u64 = table[1 + n..1 + 2 * n].iter().map(|&weight| u64::from(weight)).sum();
+            assert_eq!(numerators[..n].iter().sum::<u64>(), total * over);
         }
     }
 
     // lines: all of a small network, some of a large one, and numbers out of range, as above
-    let m = table.get(1 + 2 * n).map_or(0, |&end| end as usize / 2);
+    let m = table.get(1 + 3 * n).map_or(0, |&end| end as usize / 2);
     let small = random.below(m);
     let mut lines: Vec<usize> = match m {
         0..=3 => (0..m).collect(),
@@ -451,6 +619,7 @@ fn files() {
     let mut repeats = Repeats::default();
     let mut orders = Orders::default();
     let mut needs = Needs::default();
+    let mut weights = Weights::default();
     let mut earlier: Vec<u16> = marks(20);
     for _ in 0..FILES {
         let file = match random.below(20) {
@@ -466,20 +635,25 @@ fn files() {
                 }
                 network.order(&mut random);
                 let mut file = network.file();
+                if random.one_in(8) {
+                    let (n, records) = (network.needs.len(), network.records.len());
+                    made::damage_weights(&mut file, n, records, &mut random);
+                }
                 for _ in 0..random.below(if kind < 12 { 1 } else { 3 }) {
                     made::damage_file(&mut file, &mut random);
                 }
                 file
             }
         };
-        // twice as many entries as a file has bytes are enough for its table
-        let spare = 2 * file.len() + random.below(9);
+        // three times as many entries as a file has bytes are enough for its table
+        let spare = 3 * file.len() + random.below(9);
         let (answer, _) = read(&file, &marks(spare), &mut tallies);
         orders.count(&file, &answer);
         needs.count(&file, &answer);
+        weights.count(&file, &answer);
         match answer {
             Ok((n, m)) => {
-                let entries = 2 * n + 2 + 2 * m;
+                let entries = 3 * n + 2 + 2 * m;
                 for length in [0, entries - 1] {
                     assert_eq!(read(&file, &marks(length), &mut tallies).0, Err(10));
                 }
@@ -503,10 +677,11 @@ fn files() {
             }
         }
     }
-    tallies.read.shows("read", &[1, 2, 3, 4, 5, 6, 7, 10, 15, 17]);
+    tallies.read.shows("read", &[1, 2, 3, 4, 5, 6, 7, 10, 15, 17, 19, 20]);
     repeats.show();
     orders.show();
     needs.show();
+    weights.show();
 }
 
 #[test]
@@ -518,19 +693,21 @@ fn tables() {
             0 | 1 => made::random_table(&mut random),
             kind => {
                 let mut network = Network::random(&mut random);
-                // a network, but for a need that cannot be met
-                if kind == 2 {
-                    network.raise_need(&mut random);
+                // a network, but for a need that cannot be met, or a weight that none may have
+                match kind {
+                    2 => network.raise_need(&mut random),
+                    3 => network.spoil_weight(&mut random),
+                    _ => {}
                 }
                 let mut rows = network.rows();
                 if kind >= 13 {
                     made::damage_rows(&mut rows, &mut random);
                 }
-                let mut table = made::table(&network.needs, &rows);
+                let mut table = made::table(&network, &rows);
                 if (9..14).contains(&kind) {
                     made::damage_table(&mut table, &mut random);
                 }
-                if kind == 2 {
+                if kind == 2 || kind == 3 {
                     assert_eq!(share_sheet::degree(&table, 0), Err(Refusal::NoNetwork));
                 }
                 table
@@ -547,9 +724,15 @@ fn tables() {
 /// How many networks were read, written and read again, and how many of each kind.
 #[derive(Debug, Default)]
 struct RoundTrips {
-    /// Their files have no parallel circuits, and are given back; they have some, and are not.
+    /// Their files have no parallel circuits; they have some, and are not given back.
     without_parallels: usize,
     with_parallels: usize,
+    /// Their files have no weights; weights that are all 1, and are not given back; other weights.
+    without_weights: usize,
+    with_ones: usize,
+    with_weights: usize,
+    /// Their files are given back, and have weights.
+    weights_given_back: usize,
     /// One bus; as many buses as may be; no line at all.
     one_bus: usize,
     most_buses: usize,
@@ -567,16 +750,24 @@ struct RoundTrips {
 }
 
 impl RoundTrips {
-    /// Counts a network; `once` is the same with one record for each pair.
-    fn count_network(&mut self, network: &Network, once: &Network) {
-        let (n, m) = (once.needs.len(), once.records.len());
+    /// Counts a network; `written` is the same as it is written.
+    fn count_network(&mut self, network: &Network, written: &Network) {
+        let (n, m) = (written.needs.len(), written.records.len());
         self.without_parallels += usize::from(network.records.len() == m);
         self.with_parallels += usize::from(network.records.len() > m);
+        match (&network.weights, &written.weights) {
+            (None, _) => self.without_weights += 1,
+            (_, None) => self.with_ones += 1,
+            _ => {
+                self.with_weights += 1;
+                self.weights_given_back += usize::from(network.records.len() == m);
+            }
+        }
         self.one_bus += usize::from(n == 1);
         self.most_buses += usize::from(n == 512);
         self.no_line += usize::from(m == 0);
         self.full += usize::from(2 * m == 23 * n);
-        self.largest += usize::from(m == made::MOST_RECORDS);
+        self.largest += usize::from(m == made::MOST_RECORDS && written.weights.is_some());
     }
 
     /// Counts a call that lends so many bytes for a file of `bytes`.
@@ -592,6 +783,8 @@ impl RoundTrips {
         println!("{self:?}");
         assert_eq!(self.without_parallels + self.with_parallels, ROUND_TRIPS);
         assert!(self.without_parallels >= 50_000 && self.with_parallels >= 20_000, "{self:?}");
+        assert!(self.without_weights >= 20_000 && self.with_ones >= 10_000, "{self:?}");
+        assert!(self.with_weights >= 20_000 && self.weights_given_back >= 10_000, "{self:?}");
         assert!(self.one_bus >= 1_000 && self.most_buses >= 100, "{self:?}");
         assert!(self.no_line >= 1_000 && self.full >= 100 && self.largest > 0, "{self:?}");
         for calls in [self.no_byte, self.a_byte_short, self.just_enough, self.more] {
@@ -609,19 +802,21 @@ fn table_of(file: &[u8], entries: usize) -> (Counts, Vec<u16>) {
 }
 
 /// Files are read, written and read again; tables built in memory are written and read. What is
-/// written is the file with one record for each pair, so that a file without parallel circuits is
-/// given back.
+/// written is the file with one record for each pair and without weights that are all 1, so that a
+/// file that has neither parallel circuits nor such weights is given back.
 #[test]
 fn round_trips() {
     let mut random = Random::new(0x5EED_0707_11E5);
     let mut trips = RoundTrips::default();
     for _ in 0..ROUND_TRIPS {
         let network = Network::random(&mut random);
-        let once = network.once();
-        trips.count_network(&network, &once);
-        let (file, wanted) = (network.file(), once.file());
-        let (buses, lines) = (once.needs.len(), once.records.len());
-        let (entries, bytes) = (2 * buses + 2 + 2 * lines, 4 + buses + 4 * lines);
+        let written = network.as_written();
+        trips.count_network(&network, &written);
+        let (file, wanted) = (network.file(), written.file());
+        let (buses, lines) = (written.needs.len(), written.records.len());
+        let entries = 3 * buses + 2 + 2 * lines;
+        let bytes = 4 + buses + 4 * lines + written.weights.as_ref().map_or(0, |_| 2 + 2 * buses);
+        let is_given_back = network.records.len() == lines && network.weights == written.weights;
 
         let (counts, table) = table_of(&file, entries);
         assert_eq!(counts, Counts { buses, lines });
@@ -638,12 +833,12 @@ fn round_trips() {
             let (answer, lent) = alike(&marks(length), 0xA5, library, copied);
             trips.count_call(length, bytes);
             if answer.is_ok() {
-                assert_eq!(lent[..bytes] == file, network.records.len() == lines);
+                assert_eq!(lent[..bytes] == file, is_given_back);
                 assert_eq!(table_of(&lent[..bytes], entries), (counts, table.clone()));
             }
         }
 
-        let mut built = made::table(&network.needs, &network.rows());
+        let mut built = made::table(&network, &network.rows());
         let behind = random.below(4);
         built.extend(marks::<u16>(behind));
         let mut lent = marks(bytes);
@@ -706,8 +901,8 @@ fn outages() {
     for _ in 0..OUTAGES {
         let network = Network::random(&mut random);
         let rows = network.rows();
-        let table = made::table(&network.needs, &rows);
-        let pairs = network.once().records;
+        let table = made::table(&network, &rows);
+        let pairs = network.as_written().records;
         if pairs.is_empty() {
             continue;
         }
@@ -773,8 +968,8 @@ fn a_table_of_one_bus_too_many() {
     for (n, holds) in [(512, true), (513, false)] {
         let pairs = (0..n / 2).map(|pair| (2 * pair, 2 * pair + 1)).collect();
         for records in [vec![], pairs] {
-            let network = Network { needs: vec![1; n.into()], records };
-            let table = made::table(&network.needs, &network.rows());
+            let network = Network { needs: vec![1; n.into()], records, weights: None };
+            let table = made::table(&network, &network.rows());
             assert_eq!(share_sheet::degree(&table, 0).is_ok(), holds);
             call_all(&table, &mut random, &mut tallies);
         }

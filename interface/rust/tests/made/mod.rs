@@ -3,6 +3,9 @@
 /// How many records a file may have.
 pub const MOST_RECORDS: usize = 5888;
 
+/// Weights that no bus may have.
+pub const NO_WEIGHTS: [u16; 5] = [0, 0, 1001, 1001, 0xFFFF];
+
 /// Random numbers (xorshift with a multiplication), the same for the same seed.
 pub struct Random(u64);
 
@@ -39,15 +42,17 @@ impl Random {
     }
 }
 
-/// The needs of a network, and its records in their order; several may name one pair.
+/// The needs of a network, its records in their order, of which several may name one pair, and its
+/// weights. Without weights its file ends with the records, and each bus has weight 1.
 pub struct Network {
     pub needs: Vec<u8>,
     pub records: Vec<(u16, u16)>,
+    pub weights: Option<Vec<u16>>,
 }
 
 impl Network {
     /// A sound network, its records in order. Most are small; some have as many buses, lines or
-    /// records as may be. One in three names pairs again.
+    /// records as may be. One in three names pairs again, and one in three has no weights.
     pub fn random(random: &mut Random) -> Self {
         let n = match random.below(600) {
             0..=399 => 1 + random.below(12),
@@ -61,7 +66,8 @@ impl Network {
             1..=3 if n > 23 => Self::star_lines(n, random),
             _ => Self::any_lines(n, random),
         };
-        let mut network = Network { needs: vec![1; n], records };
+        let weights = Self::random_weights(n, random);
+        let mut network = Network { needs: vec![1; n], records, weights };
         if random.one_in(3) && !network.records.is_empty() {
             network.repeat(random);
         }
@@ -77,6 +83,36 @@ impl Network {
         }
         network.ascend();
         network
+    }
+
+    /// No weights, 1 at each bus, 1 at each but one, the highest at each, or any.
+    fn random_weights(n: usize, random: &mut Random) -> Option<Vec<u16>> {
+        let kind = random.below(12);
+        let alone = random.below(n);
+        let weight = |bus| match kind {
+            4 | 5 => 1,
+            6 if bus != alone => 1,
+            7 => 1000,
+            _ => {
+                let any = 1 + random.below(1000) as u16;
+                random.of(&[1, 1000, any, any, any])
+            }
+        };
+        (kind > 3).then(|| (0..n).map(weight).collect())
+    }
+
+    /// The weight of each bus.
+    pub fn all_weights(&self) -> Vec<u16> {
+        self.weights.clone().unwrap_or_else(|| vec![1; self.needs.len()])
+    }
+
+    /// Gives a bus a weight that it may not have.
+    pub fn spoil_weight(&mut self, random: &mut Random) {
+        let mut weights = self.all_weights();
+        let bus = random.below(weights.len());
+        let bus = random.of(&[0, bus, bus, weights.len() - 1]);
+        weights[bus] = random.of(&NO_WEIGHTS);
+        self.weights = Some(weights);
     }
 
     /// Raises the need of a bus above the highest that can be met there, most often by one.
@@ -298,14 +334,21 @@ impl Network {
             file.extend(a.to_le_bytes());
             file.extend(b.to_le_bytes());
         }
+        if let Some(weights) = &self.weights {
+            file.extend((weights.len() as u16).to_le_bytes());
+            file.extend(weights.iter().flat_map(|weight| weight.to_le_bytes()));
+        }
         file
     }
 
-    /// The network with one record for each pair, if its records are in order.
-    pub fn once(&self) -> Self {
+    /// The network as it is written, if its records are in order: with one record for each pair,
+    /// and without weights that are all 1.
+    pub fn as_written(&self) -> Self {
         let mut records = self.records.clone();
         records.dedup();
-        Network { needs: self.needs.clone(), records }
+        let mut weights = self.weights.clone();
+        weights.take_if(|weights| weights.iter().all(|&weight| weight == 1));
+        Network { needs: self.needs.clone(), records, weights }
     }
 
     /// The neighbours of each bus, ascending and each once.
@@ -352,7 +395,48 @@ pub fn damage_file(file: &mut Vec<u8>, random: &mut Random) {
     }
 }
 
-/// Writes another count.
+/// Damages what stands behind the records of a file, of n buses: the weight count and the weights.
+/// If there is nothing, it is a weight 1 for each bus before.
+pub fn damage_weights(file: &mut Vec<u8>, n: usize, records: usize, random: &mut Random) {
+    let start = 4 + n + 4 * records;
+    if file.len() == start {
+        file.extend((n as u16).to_le_bytes());
+        file.extend([1, 0].repeat(n));
+    }
+    let count = n as u16;
+    let any = random.word() as u16;
+    let other = random.of(&[0, 1, 255, count ^ 256, 0xFFFF, any]);
+    let wrong = random.of(&[count - 1, count - 1, count + 1, count + 1, other]);
+    match random.below(8) {
+        // cut inside the count, behind it, inside the weights, or by a byte
+        0 => file.truncate(start + 1),
+        1 => file.truncate(start + 2 + random.below(2 * n)),
+        2 => file.truncate(file.len() - 1),
+        // another count: with the same weights, with as many weights as it says, or with fewer than n
+        3 => recount(file, start, wrong),
+        4 => {
+            recount(file, start, wrong);
+            file.resize(start + 2 + 2 * wrong.min(600) as usize, 1);
+        }
+        5 => {
+            recount(file, start, wrong);
+            file.truncate(start + 2 + random.below(2 * n));
+        }
+        // a wrong weight; and bytes behind it
+        6 => {
+            let bus = random.below(n);
+            let bus = random.of(&[0, bus, n - 1]);
+            recount(file, start + 2 + 2 * bus, random.of(&NO_WEIGHTS));
+            if random.one_in(3) {
+                file.push(random.of(&[0, 1, 255]));
+            }
+        }
+        // bytes behind all
+        _ => file.extend((0..=random.below(3)).map(|_| random.of(&[0, 1, 255]))),
+    }
+}
+
+/// Writes another number.
 fn recount(file: &mut [u8], place: usize, count: u16) {
     if let Some(old) = file.get_mut(place..place + 2) {
         old.copy_from_slice(&count.to_le_bytes());
@@ -365,10 +449,11 @@ pub fn random_bytes(random: &mut Random) -> Vec<u8> {
     (0..random.below(40)).map(|_| random.below(most) as u8).collect()
 }
 
-/// Lays rows out behind n, the needs and the starts.
-pub fn table(needs: &[u8], rows: &[Vec<u16>]) -> Vec<u16> {
-    let mut table = vec![needs.len() as u16];
-    table.extend(needs.iter().map(|&need| need as u16));
+/// Lays rows out behind n, the needs, the weights and the starts.
+pub fn table(network: &Network, rows: &[Vec<u16>]) -> Vec<u16> {
+    let mut table = vec![network.needs.len() as u16];
+    table.extend(network.needs.iter().map(|&need| need as u16));
+    table.extend(network.all_weights());
     let mut start = 0;
     table.push(start);
     for row in rows {
@@ -436,8 +521,10 @@ pub fn damage_table(table: &mut Vec<u16>, random: &mut Random) {
     let n = table[0] as usize;
     let at = random.below(table.len());
     let need = 1 + random.below(n);
-    let start = 1 + n + random.below(n + 1);
-    match random.below(9) {
+    let weight = 1 + n + random.below(n);
+    let starts = 1 + 2 * n;
+    let start = starts + random.below(n + 1);
+    match random.below(10) {
         0 => table[at] = table[at].wrapping_add(random.of(&[1, 2, 0xFFFF, 0xFFFE, 256])),
         1 => table[at] = random.below(n + 2) as u16,
         2 => table[at] = random.word() as u16,
@@ -446,7 +533,8 @@ pub fn damage_table(table: &mut Vec<u16>, random: &mut Random) {
         5 => table[0] = random.of(&[0, n as u16 + 1, n as u16 - 1, 513]),
         6 => table[need] = random.of(&[0, 1, 24, 25, 256, 257]),
         7 => table[start] = table[start].wrapping_add(random.of(&[1, 0xFFFF])),
-        _ => table.swap(start, 1 + n + random.below(n + 1)),
+        8 => table[weight] = random.of(&[0, 1, 1000, 1001, 1257, 0xFFFF]),
+        _ => table.swap(start, starts + random.below(n + 1)),
     }
 }
 

@@ -1,4 +1,4 @@
-//! A second reading of the scope and of orders 1 to 6 in plain safe Rust, which shares nothing with
+//! A second reading of the scope and of orders 1 to 7 in plain safe Rust, which shares nothing with
 //! the library. Tests compare the library with it, and the benchmark measures against it. Refusals
 //! are their numbers.
 #![allow(dead_code)] // each program that has this module uses a part of it
@@ -7,6 +7,7 @@
 const MOST_BUSES: usize = 512;
 const MOST_LINES_AT_BUS: usize = 23;
 const MOST_NEED: u16 = 24;
+const MOST_WEIGHT: u16 = 1000;
 const MOST_RECORDS: usize = MOST_BUSES * MOST_LINES_AT_BUS / 2;
 
 /// Reads a network file into `table`; gives the counts of buses and of different pairs.
@@ -25,9 +26,7 @@ pub fn read(file: &[u8], table: &mut [u16]) -> Result<(usize, usize), u8> {
         return Err(4);
     }
     let records = bytes(&mut rest, 4 * count)?;
-    if !rest.is_empty() {
-        return Err(5);
-    }
+    let weights = weights(rest, n)?;
 
     let mut lines = Vec::with_capacity(count);
     for record in records.chunks_exact(4) {
@@ -60,14 +59,15 @@ pub fn read(file: &[u8], table: &mut [u16]) -> Result<(usize, usize), u8> {
     }
 
     let m = rows.iter().map(Vec::len).sum::<usize>() / 2;
-    if table.len() < 2 * n + 2 + 2 * m {
+    if table.len() < 3 * n + 2 + 2 * m {
         return Err(10);
     }
     table[0] = n as u16;
     for (entry, &need) in table[1..].iter_mut().zip(needs) {
         *entry = need.into();
     }
-    let (starts, links) = table[1 + n..].split_at_mut(n + 1);
+    table[1 + n..1 + 2 * n].copy_from_slice(&weights);
+    let (starts, links) = table[1 + 2 * n..].split_at_mut(n + 1);
     let mut start = 0;
     for (bus, row) in rows.iter().enumerate() {
         starts[bus] = start as u16;
@@ -76,6 +76,26 @@ pub fn read(file: &[u8], table: &mut [u16]) -> Result<(usize, usize), u8> {
     }
     starts[n] = start as u16;
     Ok((n, m))
+}
+
+/// The weights that stand behind the records: one for each of n buses behind their count, or 1 for
+/// each if the file ends there.
+fn weights(mut rest: &[u8], n: usize) -> Result<Vec<u16>, u8> {
+    if rest.is_empty() {
+        return Ok(vec![1; n]);
+    }
+    if number(&mut rest)? as usize != n {
+        return Err(19);
+    }
+    let pairs = bytes(&mut rest, 2 * n)?.chunks_exact(2);
+    let weights: Vec<_> = pairs.map(|pair| u16::from_le_bytes([pair[0], pair[1]])).collect();
+    if weights.iter().any(|&weight| !is_weight(weight)) {
+        return Err(20);
+    }
+    if !rest.is_empty() {
+        return Err(5);
+    }
+    Ok(weights)
 }
 
 /// Takes a number of two bytes from the front.
@@ -98,6 +118,10 @@ fn is_need(need: u16) -> bool {
     (1..=MOST_NEED).contains(&need)
 }
 
+fn is_weight(weight: u16) -> bool {
+    (1..=MOST_WEIGHT).contains(&weight)
+}
+
 /// A need that exceeds its bus's degree cannot be met; but a bus without lines may have need 1.
 fn cannot_be_met(need: u16, degree: usize) -> bool {
     let may_stand = degree == 0 && need == 1;
@@ -108,6 +132,7 @@ fn cannot_be_met(need: u16, degree: usize) -> bool {
 struct Network<'a> {
     n: usize,
     needs: &'a [u16],
+    weights: &'a [u16],
     starts: &'a [u16],
     links: &'a [u16],
 }
@@ -125,16 +150,18 @@ impl<'a> Network<'a> {
             return None;
         }
         let needs = table.get(1..1 + n)?;
-        let starts = table.get(1 + n..2 + 2 * n)?;
+        let weights = table.get(1 + n..1 + 2 * n)?;
+        let starts = table.get(1 + 2 * n..2 + 3 * n)?;
         if starts[0] != 0 || starts.windows(2).any(|pair| pair[0] > pair[1]) {
             return None;
         }
-        let links = table.get(2 + 2 * n..2 + 2 * n + starts[n] as usize)?;
-        Some(Network { n, needs, starts, links })
+        let links = table.get(2 + 3 * n..2 + 3 * n + starts[n] as usize)?;
+        Some(Network { n, needs, weights, starts, links })
     }
 
     fn is_sound(&self) -> bool {
         self.needs.iter().all(|&need| is_need(need))
+            && self.weights.iter().all(|&weight| is_weight(weight))
             && (0..self.n).all(|bus| {
                 let row = self.row(bus);
                 row.len() <= MOST_LINES_AT_BUS
@@ -170,6 +197,7 @@ impl<'a> Network<'a> {
     fn without(&self, a: u16, b: u16) -> Vec<u16> {
         let mut table = vec![self.n as u16];
         table.extend(self.needs);
+        table.extend(self.weights);
         let mut links = Vec::with_capacity(self.links.len());
         for bus in 0..self.n as u16 {
             table.push(links.len() as u16);
@@ -194,21 +222,15 @@ impl<'a> Network<'a> {
     /// What a bus gets for being seen itself, times l.
     fn own_term(&self, bus: usize, l: u64) -> u64 {
         let (k, d) = self.need_and_degree(bus);
-        if k <= d {
-            k * l / (d + 1)
-        } else {
-            l
-        }
+        let term = if k <= d { k * l / (d + 1) } else { l };
+        u64::from(self.weights[bus]) * term
     }
 
-    /// What each neighbour of a bus gets for seeing it, times l.
+    /// What each neighbour of a bus gets for seeing it, times l. The bus that is seen has the weight.
     fn neighbour_term(&self, bus: usize, l: u64) -> u64 {
         let (k, d) = self.need_and_degree(bus);
-        if k <= d {
-            (d + 1 - k) * l / (d * (d + 1))
-        } else {
-            0
-        }
+        let term = if k <= d { (d + 1 - k) * l / (d * (d + 1)) } else { 0 };
+        u64::from(self.weights[bus]) * term
     }
 
     fn numerator(&self, bus: usize, l: u64) -> u64 {
@@ -253,6 +275,11 @@ pub fn write(table: &[u16], file: &mut [u8]) -> Result<usize, u8> {
     for (a, b) in pairs {
         content.extend(a.to_le_bytes());
         content.extend(b.to_le_bytes());
+    }
+    // a section of all ones is left out
+    if network.weights.iter().any(|&weight| weight != 1) {
+        content.extend((network.n as u16).to_le_bytes());
+        content.extend(network.weights.iter().flat_map(|weight| weight.to_le_bytes()));
     }
     put(&content, file).ok_or(16)
 }
