@@ -43,6 +43,10 @@ pub record SoundSections (f : List ℕ) : Type 0 where
   pub third : recordsEnd f < length f → SoundWeightSection f
   pub weights : weightsInRange (fileWeights f) ≡ true
 
+-- weights of n buses are complete in the bytes b: there are two for each, or none at all
+abbrev pub CompleteWeights : ℕ → List ℕ → Type 0
+CompleteWeights n b = 0 < length b → 2 * n ≤ length b
+
 -- where none of a stage's causes holds
 module _ (f : List ℕ) where
   pub buses-passed : NoneHolds (busSectionCauses f) → SoundBusSection f
@@ -129,10 +133,13 @@ module _ {f : List ℕ} (s : SoundSections f) where
       (λ e. inr (s .third (ltb-true (recordsEnd f) (length f) e)))
       (λ e. inl (le-antisymm (ltb-false (recordsEnd f) (length f) e) (s .complete)))
 
-  -- so it has two bytes for each weight, or none at all
-  pub weights-complete : 0 < length (weightBytes f) → length (weightBytes f) ≡ 2 * fileBusCount f
+  -- so its weights are complete
+  pub weights-complete : CompleteWeights (fileBusCount f) (weightBytes f)
   weights-complete h =
-      ⊎-elim (λ e. absurd (omega (arith, ap length (weightBytes-none f (omega arith))))) (λ w. length-weightBytes f (omega (arith, w .size))) ends
+      ⊎-elim
+      (λ e. absurd (omega (arith, ap length (weightBytes-none f (omega arith)))))
+      (λ w. omega (arith, length-weightBytes f (omega (arith, w .size))))
+      ends
 
   -- and is not longer than the limit says
   pub bytes-le : length f ≤ maxBytes

@@ -13,15 +13,19 @@ use Rattle.file_spec.specs.FileBytes.{weightIn}
 use Rattle.file_spec.specs.Records.{neighbours, pairCount}
 use Rattle.read_spec.specs.ReadOutcome.{degreeCauses, needCauses, roomCauses, recordCauses}
 
--- buses with the needs q and the weights w, and m lines that give them these rows: what is answered, and what a slice that held t holds then, where these causes decide
-abbrev pub TableDue : List Cause → List ℕ → List ℕ → ℕ → (ℕ → List ℕ) → List ℕ → Outcome Counts → List ℕ → Type 0
-TableDue cs q w m rows t o t′ = Due cs (record { buses = length q; lines = m }) (put t 0 (tableOf (length q) q w rows)) t o t′
+-- the table of buses with the needs q, the weights that the bytes b give them, and the neighbours that m records r do
+abbrev pub recordsTable : List ℕ → List ℕ → ℕ → List ℕ → List ℕ
+recordsTable q b m r = tableOf (length q) q (mapBelow (length q) (weightIn b)) (neighbours (length q) m r)
 
--- the bytes b give the weights; m records r are sound and in order
+-- what is answered, and what a slice that held t holds then, where these causes decide
+abbrev pub TableDue : List Cause → List ℕ → List ℕ → ℕ → List ℕ → List ℕ → Outcome Counts → List ℕ → Type 0
+TableDue cs q b m r t o t′ = Due cs (record { buses = length q; lines = pairCount m r }) (put t 0 (recordsTable q b m r)) t o t′
+
+-- the records are sound and in order
 abbrev pub LinesDue : List ℕ → List ℕ → ℕ → List ℕ → List ℕ → Outcome Counts → List ℕ → Type 0
 LinesDue q b m r t o t′ =
-    TableDue (degreeCauses (length q) m r ++ needCauses (length q) q m r ++ roomCauses (length q) (pairCount m r) (length t)) q (mapBelow (length q) (weightIn b)) (pairCount m r) (neighbours (length q) m r) t o t′
+    TableDue (degreeCauses (length q) m r ++ needCauses (length q) q m r ++ roomCauses (length q) (pairCount m r) (length t)) q b m r t o t′
 
--- any m records r
+-- they are any
 abbrev pub RecordsDue : List ℕ → List ℕ → ℕ → List ℕ → List ℕ → Outcome Counts → List ℕ → Type 0
-RecordsDue q b m r t o t′ = TableDue (recordCauses (length q) q m r (length t)) q (mapBelow (length q) (weightIn b)) (pairCount m r) (neighbours (length q) m r) t o t′
+RecordsDue q b m r t o t′ = TableDue (recordCauses (length q) q m r (length t)) q b m r t o t′

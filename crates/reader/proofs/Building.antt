@@ -1,11 +1,11 @@
 -- What the stores of Read leave: a table, followed by the old rest.
 use mathlib.Core.Bool.{not}
-use mathlib.Core.List.{List, _∷_}
+use mathlib.Core.List.{List, _∷_, _++_}
 use mathlib.Core.Path.{_≡_, ap, _∙_}
 use Prim.Native.Nat.{ℕ, _+_, _*_}
 use native.Mathlib.Omega.{arith}
 use lib.Dec.{ltb}
-use lib.ListN.{length}
+use lib.ListN.{length, length-append}
 use Rattle.lists.specs.Lists.{at, put}
 use Rattle.lists.specs.Below.{anyBelow}
 use Rattle.lists.specs.Loops.{anyBelow-same}
@@ -34,8 +34,10 @@ pub above-counted : (q : List ℕ) {m : ℕ} {r counts : List ℕ} → Neighbour
     → not (needsCanBeMet (length q) q (at counts)) ≡ needAboveDegree (length q) q m r
 above-counted q w = ap not (met-same (length q) q (w .each))
 
--- the bus count and the needs q were written into a slice that held t, and then the rows
-pub built : (t q : List ℕ) (rows : ℕ → List ℕ) {t₁ t₂ : List ℕ} → t₁ ≡ put t 0 (length q ∷ q) → t₂ ≡ put t₁ (1 + length q) (laid (length q) rows)
-    → t₂ ≡ put t 0 (tableOf (length q) q rows)
+-- the bus count and the needs q were written into a slice that held t, then the weights w, and then the rows
+pub built : (t q w : List ℕ) (rows : ℕ → List ℕ) {t₁ t₂ t₃ : List ℕ} → length w ≡ length q → t₁ ≡ put t 0 (length q ∷ q) → t₂ ≡ put t₁ (1 + length q) w
+    → t₃ ≡ put t₂ (1 + 2 * length q) (laid (length q) rows) → t₃ ≡ put t 0 (tableOf (length q) q w rows)
 unfolding tableOf
-built t q rows u v = v ∙ stored-list t 0 (length q ∷ q) u (omega arith) (laid (length q) rows) (omega arith)
+built t q w rows {t₁} {t₂} wide first second third =
+    let both : t₂ ≡ put t 0 (length q ∷ q ++ w) = second ∙ stored-list t 0 (length q ∷ q) first (omega arith) w (omega arith) in
+    third ∙ stored-list t 0 (length q ∷ q ++ w) both (omega (arith, length-append q w)) (laid (length q) rows) (omega arith)

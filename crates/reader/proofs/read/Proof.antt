@@ -7,7 +7,7 @@ use Rattle.refusals.specs.Outcomes.{gives}
 use Rattle.refusals.specs.Due.{stage-stop}
 use Rattle.file_spec.specs.FileBytes.{fileBusCount, needBytes, fileLineCount, records}
 use Rattle.file_spec.specs.Sections.{sectionCauses, counts, sectionsOutcome}
-use Rattle.file_spec.specs.SoundSections.{length-needBytes, length-records}
+use Rattle.file_spec.specs.SoundSections.{length-needBytes, length-records, weights-complete}
 use Rattle.file_sections.specs.FileAnswers.{outcomeOfReading}
 use Rattle.read_spec.specs.ReadOutcome.{recordCauses}
 use Rattle.read_spec.specs.Recorded.{read-recorded}
@@ -22,16 +22,22 @@ judged c = sym (c .before .before .judge .ensures) ∙ ap outcomeOfReading (c .c
 need-bytes-requires : tie.Need-need-bytes-requires
 need-bytes-requires c κs = let e = judged (c .before) in (ap (λ n. n .buses) (counted _ e), sound _ e .first .complete)
 
+weight-bytes-requires : tie.Need-weight-bytes-requires
+weight-bytes-requires c κs = let e = judged (c .before .before) in (ap (λ n. n .buses) (counted _ e), ap (λ n. n .lines) (counted _ e), sound _ e)
+
 records-requires : tie.Need-records-requires
-records-requires c κs = let e = judged (c .before .before) in (ap (λ n. n .buses) (counted _ e), sound _ e)
+records-requires c κs = let e = judged (c .before .before .before) in (ap (λ n. n .buses) (counted _ e), ap (λ n. n .lines) (counted _ e), sound _ e)
 
 read-records-requires : tie.Need-read-records-requires
 read-records-requires c κs =
-    let p = c .before .before in
+    let b = c .before .before in
+    let p = b .before in
     let e = judged (p .before .before) in
     let w = sound _ e in
-    let z = ap (λ n. n .lines) (counted _ e) in (
-      omega (arith, ap length (p .need-bytes .ensures), length-needBytes w, w .first .buses),
+    let z = ap (λ n. n .lines) (counted _ e) in
+    let q = ap length (p .need-bytes .ensures) ∙ length-needBytes w in (
+      omega (arith, q, w .first .buses),
+      rw (b .weight-bytes .ensures, q) (weights-complete w),
       omega (arith, z, w .lines),
       omega (arith, z, ap length (c .before .records .ensures), length-records w),
     )
@@ -48,13 +54,14 @@ returns c =
 returns-2 : tie.Need-returns-2
 returns-2 c =
     let r = c .before .before in
-    let p = r .before .before .before in
+    let s = r .before .before in
+    let p = s .before .before in
     let k = p .before .before in
     let a = k .before .before .before .before .before .args in
     let f = a .file .now in
     let t = a .table .now in
     read-recorded f t
-    (records-decide f (judged k) t (p .need-bytes .ensures) (ap (λ n. n .lines) (counted f (judged k))) (r .before .before .records .ensures) (r .read-records .ensures))
+    (records-decide f (judged k) t (p .need-bytes .ensures) (s .before .weight-bytes .ensures) (ap (λ n. n .lines) (counted f (judged k))) (s .records .ensures) (r .read-records .ensures))
 
 pub read-spec : {M : Type 1} → statement M
 read-spec =
@@ -64,6 +71,7 @@ read-spec =
     (λ c. search needs)
     (λ c. search needs)
     need-bytes-requires
+    weight-bytes-requires
     records-requires
     read-records-requires
     returns

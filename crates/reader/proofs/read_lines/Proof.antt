@@ -7,9 +7,9 @@ use Prim.Native.Nat.{ℕ}
 use lib.ListN.{length}
 use Rattle.refusals.specs.Due.{stop, pass, below, not-below, accept}
 use Rattle.table_spec.specs.Layout.{tableEntries}
-use Rattle.file_spec.specs.Records.{neighbours, degreeTooHigh, needAboveDegree, pairCount}
+use Rattle.file_spec.specs.Records.{degreeTooHigh, needAboveDegree, pairCount}
 use Rattle.file_spec.specs.RecordPairs.{pairCount-le}
-use Rattle.reader.proofs.Building.{laid-length, too-high-counted, above-counted, built}
+use Rattle.reader.proofs.Building.{too-high-counted, above-counted}
 use Rattle.reader.proofs.read_lines.Statement.{statement}
 use Rattle.reader.proofs.read_lines.Tie as tie
 
@@ -18,7 +18,7 @@ abbrev counting : tie.Else1 → tie.After-count-neighbours
 counting d = d .before .before .before
 
 abbrev start : tie.After-count-neighbours → tie.Start
-start p = p .before .before .before .before .before .before
+start p = p .before .before .before .before .before .before .before
 
 -- where needs were compared with the degrees
 abbrev compared : tie.Else2 → tie.Else1
@@ -28,7 +28,7 @@ entries-requires : tie.Need-entries-requires
 entries-requires c κs =
     let p = counting (compared c) in
     let s = start p in
-    let g = s .pre .1 in
+    let g = s .pre .2 in
     (g .buses, omega (arith, p .count-neighbours .ensures .0, pairCount-le (s .args .m) (s .args .section .now), g .lines))
 
 returns : tie.Need-returns
@@ -54,28 +54,24 @@ returns-3 c =
     let d = c .before .before in
     pass (low (compared d)) (pass (sym (above (d .before)) ∙ d .if2 .left) (below refl (asked (c .before)) (c .if3 .taken)))
 
-store-rows-requires : tie.Need-store-rows-requires
-store-rows-requires c κs =
-    let q = c .before .before .before .before in
-    let e = q .before .before in
+store-table-requires : tie.Need-store-table-requires
+store-table-requires c κs =
+    let e = c .before .before in
     let p = counting (compared (e .before .before)) in
     let h = start p .pre in
-    ((h .0, h .1, p .count-neighbours .ensures .1), omega (arith, laid-length (h .1), asked (e .before), e .if3 .left, q .store-needs .kept .1 .0))
+    ((h .1, h .2, p .count-neighbours .ensures .1), (h .0, omega (arith, asked (e .before), e .if3 .left)))
 
 returns-4 : tie.Need-returns-4
 returns-4 c =
     let f = c .before .before in
-    let q = f .before .before .before .before .before in
-    let e = q .before .before in
+    let e = f .before .before .before in
     let d = e .before .before in
     let p = counting (compared d) in
     let a = start p .args in
     pass (low (compared d))
     (pass (sym (above (d .before)) ∙ d .if2 .left)
     (not-below refl (asked (e .before)) (e .if3 .left)
-    (accept
-    (ap (λ (k : ℕ). record { buses = length (a .needs .now); lines = k }) (p .count-neighbours .ensures .0))
-    (built (a .table .now) (a .needs .now) (neighbours (length (a .needs .now)) (a .m) (a .section .now)) (q .store-needs .ensures) (f .store-rows .ensures)))))
+    (accept (ap (λ (k : ℕ). record { buses = length (a .needs .now); lines = k }) (p .count-neighbours .ensures .0)) (f .store-table .ensures))))
 
 pub read-lines-spec : {M : Type 1} → statement M
 read-lines-spec =
@@ -90,8 +86,6 @@ read-lines-spec =
     returns-2
     entries-requires
     returns-3
-    (λ c κs. search needs)
-    (λ c. search needs)
-    store-rows-requires
+    store-table-requires
     (λ c. search needs)
     returns-4)

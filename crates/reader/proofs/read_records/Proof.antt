@@ -19,11 +19,12 @@ read-lines-requires : tie.Need-read-lines-requires
 read-lines-requires c κs =
     let d = c .before in
     let e = d .before .before in
-    let h = e .before .before .before .before .before .pre in (
-      h .2,
+    let h = e .before .before .before .before .before .before .pre in (
+      h .1,
+      h .3,
       record {
         buses = h .0;
-        lines = h .1;
+        lines = h .2;
         ends = ends-facts _ _ _ (passed (e .before .sound-ends .ensures) (e .if1 .left));
         order = sym (d .before .out-of-order .ensures) ∙ d .if2 .left;
       },
