@@ -11,7 +11,7 @@ pub enum Refusal {
     Need,
     // The line count is above the limit.
     LineCount,
-    // Bytes follow the last section.
+    // Bytes follow the last weight.
     FileTooLong,
     // A record names a bus that the network does not have, or one bus twice.
     LineEnds,
