@@ -1,28 +1,27 @@
--- GIVEN BACK: a file that Read accepts, without parallel circuits, is the file of the table that it stored.
+-- GIVEN BACK: a file that Read accepts, without parallel circuits and without a section of all ones, is the file of the table that it stored.
 use mathlib.Core.Bool.{true, false, not, _&&_}
 use mathlib.Core.List.{List, _++_}
 use mathlib.Core.Logic.{⊎-elim}
 use mathlib.Core.Path.{_≡_, refl, sym, ap, ap₂, subst, _∙_}
-use Prim.Native.Nat.{ℕ, _+_, _-_, _*_, _/_, _%_, _≤_, _<_}
+use Prim.Native.Nat.{ℕ, _*_, _/_, _%_, _≤_, _<_}
 use native.Mathlib.Omega.{arith}
-use borrow.Author.Tests.{ltb-true, ltb-false, lt-ltb, not-true}
+use borrow.Author.Tests.{ltb-true, lt-ltb, not-true}
 use lib.Dec.{ltb}
-use lib.ListN.{length, drop, length-take, List·getD-eq-default}
-use Rattle.lists.specs.Lists.{_∈_, has, at, part, put}
+use lib.ListN.{length}
+use Rattle.lists.specs.Lists.{_∈_, has, at, put}
 use Rattle.lists.specs.Below.{mapBelow}
-use Rattle.lists.specs.Tests.{split, same-test, and-both, and-left, and-right}
+use Rattle.lists.specs.Tests.{same-test, and-both, and-left, and-right}
 use Rattle.lists.specs.Counts.{in-has, has-in}
-use Rattle.lists.specs.Places.{at-part}
 use Rattle.lists.specs.SumsBelow.{countBelow-all}
 use Rattle.lists.specs.JoinBelow.{joinBelow-same, mapBelow-at, mapBelow-ascends, in-mapBelow, of-mapBelow}
 use Rattle.lists.specs.ListBelow.{listBelow-by}
 use Rattle.refusals.specs.Outcomes.{gives}
 use Rattle.table_spec.specs.Limits.{maxBuses}
-use Rattle.table_spec.specs.Layout.{busCount, row, lines}
+use Rattle.table_spec.specs.Layout.{busCount, weights, row, lines}
 use Rattle.table_spec.specs.Facts.{holds-test}
 use Rattle.table_spec.specs.Lines.{pairNumber, isPair, pairs, lowerBus, upperBus}
 use Rattle.network.specs.declared.Counts.{Counts}
-use Rattle.file_spec.specs.FileBytes.{fileBusCount, needBytes, fileLineCount, recordsAt, fileEnd, records, firstEnd, secondEnd}
+use Rattle.file_spec.specs.FileBytes.{fileBusCount, needBytes, fileLineCount, recordsAt, recordsEnd, records, firstEnd, secondEnd}
 use Rattle.file_spec.specs.SoundSections.{length-records, ends-facts}
 use Rattle.file_spec.specs.Records.{repeats, pairCount}
 use Rattle.file_spec.specs.RecordPairs.{joined-at, joined-by}
@@ -30,19 +29,13 @@ use Rattle.file_spec.specs.OrderedRecords.{OrderedRecords, lower-first, rank-ri
 use Rattle.read_spec.specs.ReadOutcome.{readOutcome, tableAfter, AsRecorded}
 use Rattle.read_spec.specs.ReadDecides.{whole, sound-ends, in-order}
 use Rattle.read_spec.specs.Recorded.{recorded}
-use Rattle.write_spec.specs.FileOf.{word, recordOf, pairRecords, fileOf}
-use Rattle.write_spec.specs.RoundTrip.{AreBytes, NoParallels, GivenBack}
-use Rattle.write_spec.specs.WrittenBytes.{listed, records-listed, sections-again}
+use Rattle.write_spec.specs.FileOf.{word, recordOf, pairRecords, weightSection, fileOf}
+use Rattle.write_spec.specs.RoundTrip.{AreBytes, NoParallels, NoOnesSection, GivenBack}
+use Rattle.write_spec.specs.WrittenWords.{part-bytes, listed, records-listed}
+use Rattle.write_spec.specs.WrittenBytes.{sections-again}
+use Rattle.write_spec.specs.WrittenWeights.{section-again}
 use Rattle.write_spec.specs.PairLaws.{records-pairs}
 use Rattle.write_spec.specs.WriteDue.{fitting}
-
--- a part of bytes
-part-bytes : (a e : ℕ) (f : List ℕ) → AreBytes f → AreBytes (part a e f)
-unfolding at
-part-bytes a e f bytes k =
-    split (ltb k (e - a))
-    (λ t. omega (arith, at-part a e f k (ltb-true k (e - a) t), bytes (a + k)))
-    (λ t. omega (arith, List·getD-eq-default (part a e f) 0 {n = k} (omega (arith, ltb-false k (e - a) t, length-take (e - a) (drop a f)))))
 
 -- Read accepts the file f, which has no parallel circuits, into a slice that held x
 module _ (f x : List ℕ) {c : Counts} (bytes : AreBytes f) (e : readOutcome f (length x) ≡ gives c) (single : NoParallels f) where
@@ -127,19 +120,21 @@ module _ (f x : List ℕ) {c : Counts} (bytes : AreBytes f) (e : readOutcome f (
       records-pairs t (stored .holding)
       ∙ ap₂ (λ n m. listed (lowerBus n (row t)) (upperBus n (row t)) m) (stored .buses) same-lines
       ∙ joinBelow-same _ _ m (λ k h. ap₂ recordOf (ap (λ c. c / maxBuses) (number-at k h) ∙ first-of k h) (ap (λ c. c % maxBuses) (number-at k h) ∙ second-of k h))
-      ∙ records-listed m r (length-records (whole f x e)) (part-bytes (recordsAt f) (fileEnd f) f bytes)
+      ∙ records-listed m r (length-records (whole f x e)) (part-bytes (recordsAt f) (recordsEnd f) f bytes)
 
-  file-again : fileOf (tableAfter f x) ≡ f
+  -- and so is its section of weights, unless that is of all ones
+  file-again : NoOnesSection f → fileOf (tableAfter f x) ≡ f
   unfolding fileOf
-  file-again =
-      ap₂ (λ n q. word n ++ (q ++ (word (lines t) ++ pairRecords (busCount t) (row t)))) (stored .buses) (stored .needed)
-      ∙ ap₂ (λ m r. word n ++ (needBytes f ++ (word m ++ r))) same-lines same-records
+  file-again varied =
+      ap₂ (λ n q. word n ++ (q ++ (word (lines t) ++ (pairRecords (busCount t) (row t) ++ weightSection (weights t))))) (stored .buses) (stored .needed)
+      ∙ ap₂ (λ m r. word n ++ (needBytes f ++ (word m ++ (r ++ weightSection (weights t))))) same-lines same-records
+      ∙ ap (λ s. word n ++ (needBytes f ++ (word m ++ (r ++ s)))) (ap weightSection (stored .weighed) ∙ section-again f (whole f x e) bytes varied)
       ∙ sections-again f (whole f x e) bytes
 
--- GIVEN BACK: of every file f that Read accepts, into whatever slice x, and that has no parallel circuits, the writer writes f from the slice as
--- Read left it, over the front of whatever bytes y it is lent, if they are as many
-pub given-back : (f x y : List ℕ) {c : Counts} → AreBytes f → readOutcome f (length x) ≡ gives c → NoParallels f → length f ≤ length y → GivenBack f (tableAfter f x) y
-given-back f x y bytes e single h =
-    let again = file-again f x bytes e single in
+-- GIVEN BACK: of every file f that Read accepts, into whatever slice x, and that has neither parallel circuits nor a section of all ones, the writer
+-- writes f from the slice as Read left it, over the front of whatever bytes y it is lent, if they are as many
+pub given-back : (f x y : List ℕ) {c : Counts} → AreBytes f → readOutcome f (length x) ≡ gives c → NoParallels f → NoOnesSection f → length f ≤ length y → GivenBack f (tableAfter f x) y
+given-back f x y bytes e single varied h =
+    let again = file-again f x bytes e single varied in
     let s = fitting (tableAfter f x) (holds-test (tableAfter f x) (recorded f x e .holding)) y (omega (arith, ap length again)) in
     record { answer = s .0 ∙ ap (λ l. gives (length l)) again; written = s .1 ∙ ap (put y 0) again }

@@ -3,7 +3,9 @@ pub mod FileOf
 pub mod WriteOutcome
 pub mod RoundTrip
 pub mod FileExamples
+pub mod WrittenWords
 pub mod WrittenBytes
+pub mod WrittenWeights
 pub mod PairLaws
 pub mod WriteDue
 pub mod ReadBack

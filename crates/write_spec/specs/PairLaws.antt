@@ -1,15 +1,20 @@
 -- The records of a network's file are those of its pairs of neighbours.
+use mathlib.Core.Bool.{cond}
 use mathlib.Core.List.{List}
 use mathlib.Core.Path.{_≡_, ap, _∙_}
-use Prim.Native.Nat.{ℕ, _+_, _*_}
+use Prim.Native.Nat.{ℕ, _+_, _*_, _≤_}
+use native.Mathlib.Omega.{arith}
 use lib.ListN.{length}
-use Rattle.table_spec.specs.Layout.{busCount, needs, row, lines}
+use Rattle.lists.specs.Tests.{split}
+use Rattle.table_spec.specs.Layout.{busCount, needs, weights, row, lines}
 use Rattle.table_spec.specs.Holds.{Holds}
-use Rattle.table_spec.specs.Rows.{length-needs}
+use Rattle.table_spec.specs.Rows.{length-needs, length-weights}
 use Rattle.table_spec.specs.Lines.{lowerBus, upperBus}
 use Rattle.table_spec.specs.LinePairs.{joined-pairs, neighbour-below, length-pairs}
-use Rattle.write_spec.specs.FileOf.{recordOf, pairRecords, fileOf}
-use Rattle.write_spec.specs.WrittenBytes.{listed, length-listed, length-sections}
+use Rattle.write_spec.specs.FileOf.{recordOf, pairRecords, allOnes, weightSection, fileOf}
+use Rattle.write_spec.specs.WrittenWords.{listed, length-listed}
+use Rattle.write_spec.specs.WrittenBytes.{length-sections}
+use Rattle.write_spec.specs.WrittenWeights.{length-section}
 
 module _ (t : List ℕ) (w : Holds t) where
   abbrev n : ℕ
@@ -23,6 +28,14 @@ module _ (t : List ℕ) (w : Holds t) where
   pub length-pairRecords : length (pairRecords n (row t)) ≡ 4 * lines t
   length-pairRecords = ap length records-pairs ∙ length-listed (lowerBus n (row t)) (upperBus n (row t)) (lines t)
 
-  pub length-fileOf : length (fileOf t) ≡ 2 + busCount t + 2 + 4 * lines t
+  -- so many bytes its file has
+  pub length-fileOf : length (fileOf t) ≡ 2 + busCount t + 2 + 4 * lines t + length (weightSection (weights t))
   unfolding fileOf
-  length-fileOf = length-sections n (lines t) (needs t) (pairRecords n (row t)) (length-needs t (w .shape .complete)) length-pairRecords
+  length-fileOf = length-sections n (lines t) (needs t) (pairRecords n (row t)) (weightSection (weights t)) (length-needs t (w .shape .complete)) length-pairRecords
+
+  -- two for each bus and its count are those of the weights, unless all are 1
+  pub length-weightSection : length (weightSection (weights t)) ≡ cond (allOnes (weights t)) 0 (2 + 2 * busCount t)
+  length-weightSection = length-section (weights t) ∙ ap (λ k. cond (allOnes (weights t)) 0 (2 + 2 * k)) (length-weights t (w .shape .complete))
+
+  pub weightSection-le : length (weightSection (weights t)) ≤ 2 + 2 * busCount t
+  weightSection-le = split (allOnes (weights t)) (λ e. omega (arith, rw e at length-weightSection)) (λ e. omega (arith, rw e at length-weightSection))

@@ -17,18 +17,18 @@ use Rattle.lists.specs.JoinBelow.{joinBelow-same}
 use Rattle.lists.specs.ListBelow.{listBelow-same, listBelow-members}
 use Rattle.lists.specs.Writes.{put-front, written-front}
 use Rattle.refusals.specs.Outcomes.{gives}
-use Rattle.table_spec.specs.Limits.{maxNeed}
-use Rattle.table_spec.specs.Layout.{busCount, needs, entries, startsAt, row, lines, tableEntries, tableOf}
+use Rattle.table_spec.specs.Limits.{maxNeed, maxWeight}
+use Rattle.table_spec.specs.Layout.{busCount, needs, weights, entries, startsAt, row, lines, tableEntries, tableOf}
 use Rattle.table_spec.specs.Holds.{Holds}
-use Rattle.table_spec.specs.Rows.{valid-below, valid-others, length-needs, row-valid, degree-le}
-use Rattle.table_spec.specs.Facts.{range-test, holds-facts, holds-needs}
+use Rattle.table_spec.specs.Rows.{valid-below, valid-others, length-needs, length-weights, row-valid, degree-le}
+use Rattle.table_spec.specs.Facts.{range-test, holds-facts, holds-needs, holds-weights}
 use Rattle.table_spec.specs.Lines.{lowerBus, upperBus}
 use Rattle.table_spec.specs.LineCount.{length-rows, lines-le, entries-all}
 use Rattle.table_spec.specs.LinePairs.{pairs-in, in-pairs, pairs-ascend, mirror, neighbour-below, length-pairs}
 use Rattle.table_spec.specs.Laid.{laid-same}
 use Rattle.table_spec.specs.LaidAgain.{made-again}
-use Rattle.file_spec.specs.FileBytes.{fileBusCount, needBytes, fileLineCount, records, firstEnd, secondEnd}
-use Rattle.file_spec.specs.SoundSections.{SoundSections, SoundEnds, ends-test}
+use Rattle.file_spec.specs.FileBytes.{fileBusCount, needBytes, fileLineCount, recordsEnd, records, firstEnd, secondEnd, fileWeights}
+use Rattle.file_spec.specs.SoundSections.{SoundWeightSection, SoundSections, SoundEnds, ends-test}
 use Rattle.file_spec.specs.RecordOrder.{outOfOrder}
 use Rattle.file_spec.specs.Records.{joined, neighbours, degreeTooHigh, needAboveDegree, pairCount}
 use Rattle.file_spec.specs.RecordPairs.{joined-sym, joined-at, joined-by, rows-length}
@@ -36,10 +36,12 @@ use Rattle.file_spec.specs.RecordNeighbours.{degrees-test}
 use Rattle.file_spec.specs.OrderedRecords.{order-test}
 use Rattle.read_spec.specs.ReadOutcome.{networkCounts, readOutcome, fileTable, storedTable}
 use Rattle.read_spec.specs.ReadDecides.{read-accepts, table-stored}
-use Rattle.write_spec.specs.FileOf.{pairRecords, fileOf}
+use Rattle.write_spec.specs.FileOf.{pairRecords, weightSection, fileOf}
 use Rattle.write_spec.specs.WriteOutcome.{writeOutcome, bytesAfter}
 use Rattle.write_spec.specs.RoundTrip.{ReadBack}
-use Rattle.write_spec.specs.WrittenBytes.{first-written, second-written, buses-written, needs-written, lines-written, records-written}
+use Rattle.write_spec.specs.WrittenWords.{first-written, second-written}
+use Rattle.write_spec.specs.WrittenBytes.{buses-written, needs-written, lines-written, records-written}
+use Rattle.write_spec.specs.WrittenWeights.{weights-written, third-written}
 use Rattle.write_spec.specs.WriteDue.{accepted-holds, accepted-fits, accepted-bytes, fitting}
 use Rattle.write_spec.specs.PairLaws.{records-pairs, length-pairRecords, length-fileOf}
 
@@ -126,7 +128,7 @@ module _ (t : List ℕ) (w : Holds t) where
   once : pairCount m r ≡ m
   once = omega (arith, rows-length n m r ends, ap length (joinBelow-same (neighbours n m r) (row t) n neighbours-row), length-rows t w)
 
-  -- ---- the file has them, behind the bus count, the needs and their number
+  -- ---- the file has them, behind the bus count, the needs and their number, and then the weights
 
   abbrev f : List ℕ
   f = fileOf t
@@ -137,21 +139,35 @@ module _ (t : List ℕ) (w : Holds t) where
   full : length r ≡ 4 * m
   full = length-pairRecords t w
 
+  abbrev s : List ℕ
+  s = weightSection (weights t)
+
+  wide : length (weights t) ≡ n
+  wide = length-weights t (w .shape .complete)
+
   same-buses : fileBusCount f ≡ n
   unfolding fileOf
-  same-buses = buses-written n m (needs t) r
+  same-buses = buses-written n m (needs t) r s
 
   same-needs : needBytes f ≡ needs t
   unfolding fileOf
-  same-needs = needs-written n m (needs t) r long
+  same-needs = needs-written n m (needs t) r s long
 
   same-lines : fileLineCount f ≡ m
   unfolding fileOf
-  same-lines = lines-written n m (needs t) r long
+  same-lines = lines-written n m (needs t) r s long
 
   same-records : records f ≡ r
   unfolding fileOf
-  same-records = records-written n m (needs t) r long full
+  same-records = records-written n m (needs t) r s long full
+
+  same-weights : fileWeights f ≡ weights t
+  unfolding fileOf
+  same-weights = weights-written n m (needs t) r (weights t) long full wide (w .shape .complete .least)
+
+  third : recordsEnd f < length f → SoundWeightSection f
+  unfolding fileOf
+  third = third-written n m (needs t) r (weights t) long full wide (w .shape .complete .least)
 
   sections : SoundSections f
   sections =
@@ -163,14 +179,16 @@ module _ (t : List ℕ) (w : Holds t) where
           needs = rw same-needs (range-test maxNeed (needs t) (holds-needs t w));
         };
         lines = omega (arith, same-lines, lines-le t w);
-        size = omega (arith, same-buses, same-lines, length-fileOf t w);
+        complete = omega (arith, same-buses, same-lines, length-fileOf t w);
+        third = third;
+        weights = rw same-weights (range-test maxWeight (weights t) (holds-weights t w));
       }
 
   -- the table that the file records is the network's
   table-again : fileTable f ≡ take (entries (startsAt t) t) t
   unfolding fileTable tableOf
   table-again =
-      rw (same-records, same-needs, same-lines, same-buses) (ap (λ l. (n ∷ needs t) ++ l) (laid-same (neighbours n m r) (row t) n neighbours-row))
+      rw (same-weights, same-records, same-needs, same-lines, same-buses) (ap (λ l. (n ∷ needs t ++ weights t) ++ l) (laid-same (neighbours n m r) (row t) n neighbours-row))
       ∙ made-again t (w .shape)
 
   accepted : (x : List ℕ) → tableEntries n m ≤ length x → readOutcome f (length x) ≡ gives (networkCounts f)

@@ -1,5 +1,6 @@
 -- What Read and the writer give back of one another's: two claims, on the outcomes of the two calls.
 -- Definitions only.
+use mathlib.Core.Bool.{false}
 use mathlib.Core.List.{List}
 use mathlib.Core.Path.{_≡_}
 use Prim.Native.Nat.{ℕ, _<_}
@@ -7,9 +8,10 @@ use lib.ListN.{length, take}
 use Rattle.lists.specs.Lists.{at, put}
 use Rattle.refusals.specs.Outcomes.{gives}
 use Rattle.table_spec.specs.Layout.{busCount, lines, tableEntries}
-use Rattle.file_spec.specs.FileBytes.{fileLineCount}
+use Rattle.file_spec.specs.FileBytes.{fileLineCount, recordsEnd, fileWeights}
 use Rattle.file_spec.specs.Records.{filePairCount}
 use Rattle.read_spec.specs.ReadOutcome.{readOutcome, tableAfter}
+use Rattle.write_spec.specs.FileOf.{allOnes}
 use Rattle.write_spec.specs.WriteOutcome.{writeOutcome, bytesAfter}
 
 -- the entries of the table that a slice begins with
@@ -28,6 +30,10 @@ AreBytes f = (k : ℕ) → at f k < 256
 -- no pair has two records: there are as many different pairs as records
 abbrev pub NoParallels : List ℕ → Type 0
 NoParallels f = filePairCount f ≡ fileLineCount f
+
+-- no section says that all weights are 1: if the file goes on behind its records, some weight is another
+abbrev pub NoOnesSection : List ℕ → Type 0
+NoOnesSection f = recordsEnd f < length f → allOnes (fileWeights f) ≡ false
 
 -- the writer, lent bytes that held y, gives the byte count of the file f for the slice t, and writes f over the front of y
 pub record GivenBack (f t y : List ℕ) : Type 0 where

@@ -21,7 +21,7 @@ use Rattle.table_spec.specs.LineCount.{lines-le}
 use Rattle.table_spec.specs.BeyondTable.{beyond}
 use Rattle.write_spec.specs.FileOf.{pairRecords, fileOf}
 use Rattle.write_spec.specs.WriteOutcome.{writeCauses, writeOutcome, bytesAfter}
-use Rattle.write_spec.specs.PairLaws.{length-fileOf}
+use Rattle.write_spec.specs.PairLaws.{length-fileOf, weightSection-le}
 
 -- what is due of the writer is answered and written
 pub write-due : (t x : List ℕ) {o : Outcome ℕ} {y : List ℕ} → Due (writeCauses t (length x)) (length (fileOf t)) (put x 0 (fileOf t)) x o y
@@ -49,7 +49,7 @@ module _ (t : List ℕ) (h : holds t ≡ true) where
 
   -- EVERY FILE FITS: none has more bytes than the largest that Read accepts
   pub file-fits : length (fileOf t) ≤ maxBytes
-  file-fits = let w = holds-facts t h in omega (arith, length-fileOf t w, w .shape .complete .most, lines-le t w)
+  file-fits = let w = holds-facts t h in omega (arith, length-fileOf t w, weightSection-le t w, w .shape .complete .most, lines-le t w)
 
   -- so a call that is lent so many bytes is not refused for want of them
   pub never-short : (x : List ℕ) → maxBytes ≤ length x → writeOutcome t (length x) ≡ gives (length (fileOf t))
@@ -58,7 +58,7 @@ module _ (t : List ℕ) (h : holds t ≡ true) where
 -- slices that are the same network have the same file
 pub same-file : {a b : List ℕ} → SameNetwork a b → fileOf a ≡ fileOf b
 unfolding fileOf pairRecords lines
-same-file w = simp (w .sizes, w .needed, w .rows)
+same-file w = simp (w .sizes, w .needed, w .weighed, w .rows)
 
 -- ENTRIES BEYOND THE TABLE NEVER MATTER, x or y
 pub beyond-file : (t x y : List ℕ) → entries (startsAt t) t ≤ length t → (bytes : List ℕ)
