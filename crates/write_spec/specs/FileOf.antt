@@ -14,6 +14,10 @@ use Rattle.table_spec.specs.Layout.{busCount, needs, weights, row, lines}
 unfoldable pub word : ℕ → List ℕ
 word x = x % 256 ∷ x / 256 ∷ []
 
+-- the numbers of a list, in two bytes each
+unfoldable pub words : List ℕ → List ℕ
+words l = joinBelow (length l) (λ i. word (at l i))
+
 -- the record of a pair
 unfoldable pub recordOf : ℕ → ℕ → List ℕ
 recordOf i j = word i ++ word j
@@ -26,9 +30,9 @@ pairRecords n rows = joinBelow n (λ i. joinBelow n (λ j. cond (ltb i j && has 
 unfoldable pub allOnes : List ℕ → Bool
 allOnes w = allBelow (length w) (λ i. eqb (at w i) 1)
 
--- the section of these weights: how many they are, and each in two bytes; if all are 1, it is left out
+-- the section of these weights: how many they are, and then the weights; if all are 1, it is left out
 unfoldable pub weightSection : List ℕ → List ℕ
-weightSection w = cond (allOnes w) [] (word (length w) ++ joinBelow (length w) (λ i. word (at w i)))
+weightSection w = cond (allOnes w) [] (word (length w) ++ words w)
 
 -- the file of the network that a slice holds
 unfoldable pub fileOf : List ℕ → List ℕ

@@ -2,7 +2,7 @@
 use mathlib.Core.Bool.{true, false, cond}
 use mathlib.Core.List.{List, [], _++_, append-assoc, append-nil}
 use mathlib.Core.Logic.{⊎-elim}
-use mathlib.Core.Path.{_≡_, refl, sym, ap, ap₂, _∙_}
+use mathlib.Core.Path.{_≡_, sym, ap, ap₂, _∙_}
 use Prim.Native.Nat.{ℕ, _+_, _-_, _*_, _≤_, _<_}
 use native.Mathlib.Omega.{arith}
 use borrow.Author.Tests.{eqb-true, eq-eqb}
@@ -13,13 +13,13 @@ use Rattle.lists.specs.Below.{mapBelow}
 use Rattle.lists.specs.Tests.{split}
 use Rattle.lists.specs.Loops.{allBelow-at, allBelow-by}
 use Rattle.lists.specs.Places.{part-between, part-drop}
-use Rattle.lists.specs.JoinBelow.{joinBelow-same, length-mapBelow, mapBelow-at, mapBelow-same, mapBelow-entries}
+use Rattle.lists.specs.JoinBelow.{length-mapBelow, mapBelow-at, mapBelow-same, mapBelow-entries}
 use Rattle.file_spec.specs.FileBytes.{wordAt, fileBusCount, recordsEnd, fileWeightCount, weightsAt, weightsEnd, weightBytes, weightIn, fileWeights}
 use Rattle.file_spec.specs.WeightBytes.{weight-none, weight-word, weightBytes-none, length-weightBytes}
 use Rattle.file_spec.specs.SoundSections.{SoundWeightSection, SoundSections, ends}
-use Rattle.write_spec.specs.FileOf.{word, allOnes, weightSection}
+use Rattle.write_spec.specs.FileOf.{word, words, allOnes, weightSection}
 use Rattle.write_spec.specs.RoundTrip.{AreBytes, NoOnesSection}
-use Rattle.write_spec.specs.WrittenWords.{part-bytes, word-front, word-behind, word-again, words, length-words, words-written, words-again}
+use Rattle.write_spec.specs.WrittenWords.{part-bytes, word-front, word-behind, word-again, length-words, words-written, words-again}
 use Rattle.write_spec.specs.WrittenBytes.{file, buses-written, lines-written, front, length-sections, to-rest, length-to-rest}
 
 -- ---- the section of the weights w
@@ -37,7 +37,7 @@ module _ (w : List ℕ) where
   unfolding weightSection
   section-none e = rw e
 
-  pub section-some : allOnes w ≡ false → weightSection w ≡ word (length w) ++ words (length w) (at w)
+  pub section-some : allOnes w ≡ false → weightSection w ≡ word (length w) ++ words w
   unfolding weightSection
   section-some e = rw e
 
@@ -47,7 +47,7 @@ module _ (w : List ℕ) where
   length-section =
       split (allOnes w)
       (λ e. rw e (ap length (section-none e)))
-      (λ e. rw e (ap length (section-some e) ∙ omega (arith, length-words (length w) (at w))))
+      (λ e. rw e (ap length (section-some e) ∙ omega (arith, length-words w)))
 
 -- ---- read as they were written
 
@@ -71,7 +71,7 @@ module _ (n m : ℕ) (q r w : List ℕ) (buses : length q ≡ n) (lines : length
     before = front n m q r (weightSection w) buses lines ++ r
 
     abbrev ws : List ℕ
-    ws = words (length w) (at w)
+    ws = words w
 
     shape : f ≡ before ++ (word (length w) ++ ws)
     shape = to-rest n m q r (weightSection w) buses lines ∙ ap (λ l. before ++ l) (section-some w e)
@@ -94,11 +94,11 @@ module _ (n m : ℕ) (q r w : List ℕ) (buses : length q ≡ n) (lines : length
         (shape ∙ sym (append-assoc before (word (length w)) ws) ∙ ap (λ l. (before ++ word (length w)) ++ l) (sym (append-nil ws)))
         ∙ part-between (before ++ word (length w)) ws [] {a = weightsAt f} {e = weightsEnd f}
         (omega (arith, length-before, length-append before (word (length w))))
-        (omega (arith, buses-written n m q r (weightSection w), length-words (length w) (at w), wide))
+        (omega (arith, buses-written n m q r (weightSection w), length-words w, wide))
 
     weight-other : (i : ℕ) → i < n → weightIn (weightBytes f) i ≡ at w i
     weight-other i h =
-        rw bytes-written (weight-word ws (omega (arith, length-words (length w) (at w))) i ∙ words-written (at w) (length w) {i = i} (omega arith) refl)
+        rw bytes-written (weight-word ws (omega (arith, length-words w)) i ∙ words-written w {i = i} (omega arith))
 
   pub weights-written : fileWeights f ≡ w
   weights-written =
@@ -134,22 +134,20 @@ module _ (f : List ℕ) (s : SoundSections f) (bytes : AreBytes f) where
       ∙ sym (ap (λ k. drop k f) (sym e) ∙ drop-length f)
 
   module _ (w : SoundWeightSection f) where
-    weights-again : words n (at (fileWeights f)) ≡ b
+    weights-again : words (fileWeights f) ≡ b
     unfolding weightBytes
     weights-again =
-        joinBelow-same _ _ n (λ i h. ap word (weights-at i h ∙ weight-word b (omega (arith, long)) i))
-        ∙ words-again n b long (part-bytes (weightsAt f) (weightsEnd f) f bytes)
-      where
-        long : length b ≡ 2 * n
-        long = length-weightBytes f (omega (arith, w .size))
+        let long : length b ≡ 2 * n = length-weightBytes f (omega (arith, w .size)) in
+        let many = length-mapBelow n (weightIn b) in
+        words-again (fileWeights f) b (omega arith) (part-bytes (weightsAt f) (weightsEnd f) f bytes)
+        (λ i h. weights-at i (omega arith) ∙ weight-word b (omega arith) i)
 
     weights-follow : allOnes (fileWeights f) ≡ false → weightSection (fileWeights f) ≡ drop (recordsEnd f) f
     unfolding weightBytes
     weights-follow e =
         let to-end : b ≡ drop (weightsAt f) f = take-all (weightsEnd f - weightsAt f) (drop (weightsAt f) f) (omega (arith, length-drop (weightsAt f) f, w .size)) in
         section-some (fileWeights f) e
-        ∙ ap (λ k. word k ++ words k (at (fileWeights f))) (length-mapBelow n (weightIn b))
-        ∙ ap₂ _++_ (ap word (sym (w .counted)) ∙ word-again f (recordsEnd f) bytes (omega (arith, w .size))) (weights-again ∙ to-end)
+        ∙ ap₂ _++_ (ap word (length-mapBelow n (weightIn b) ∙ sym (w .counted)) ∙ word-again f (recordsEnd f) bytes (omega (arith, w .size))) (weights-again ∙ to-end)
         ∙ part-drop (recordsEnd f) (weightsAt f) f (omega arith)
 
   pub section-again : NoOnesSection f → weightSection (fileWeights f) ≡ drop (recordsEnd f) f

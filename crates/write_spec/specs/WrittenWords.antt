@@ -16,7 +16,7 @@ use Rattle.lists.specs.Places.{at-behind, at-part}
 use Rattle.lists.specs.SumsBelow.{sumBelow-const}
 use Rattle.lists.specs.JoinBelow.{length-joinBelow, at-joinBelow, joinBelow-by, joinBelow-same, joinBelow-times}
 use Rattle.file_spec.specs.FileBytes.{wordAt, firstEnd, secondEnd}
-use Rattle.write_spec.specs.FileOf.{word, recordOf}
+use Rattle.write_spec.specs.FileOf.{word, words, recordOf}
 use Rattle.write_spec.specs.RoundTrip.{AreBytes}
 
 -- a part of bytes
@@ -54,21 +54,21 @@ word-again f i bytes h =
 
 -- ---- g 0, g 1, .. up to g (n - 1)
 
-abbrev pub words : ℕ → (ℕ → ℕ) → List ℕ
-words n g = joinBelow n (λ i. word (g i))
+abbrev wordsBelow : ℕ → (ℕ → ℕ) → List ℕ
+wordsBelow n g = joinBelow n (λ i. word (g i))
 
-pub length-words : (n : ℕ) (g : ℕ → ℕ) → length (words n g) ≡ 2 * n
+length-wordsBelow : (n : ℕ) (g : ℕ → ℕ) → length (wordsBelow n g) ≡ 2 * n
 unfolding word
-length-words n g = length-joinBelow n (λ i. word (g i)) ∙ sumBelow-const 2 n ∙ omega arith
+length-wordsBelow n g = length-joinBelow n (λ i. word (g i)) ∙ sumBelow-const 2 n ∙ omega arith
 
 -- byte j of number i
-byte-at : (g : ℕ → ℕ) (n : ℕ) {i : ℕ} → i < n → (j : ℕ) {k : ℕ} → k ≡ 2 * i + j → j < 2 → at (words n g) k ≡ at (word (g i)) j
+byte-at : (g : ℕ → ℕ) (n : ℕ) {i : ℕ} → i < n → (j : ℕ) {k : ℕ} → k ≡ 2 * i + j → j < 2 → at (wordsBelow n g) k ≡ at (word (g i)) j
 unfolding word
-byte-at g n {i} h j e l = ap (at (words n g)) (e ∙ ap (λ s. s + j) (sym (length-words i g))) ∙ at-joinBelow (λ i. word (g i)) n h j l
+byte-at g n {i} h j e l = ap (at (wordsBelow n g)) (e ∙ ap (λ s. s + j) (sym (length-wordsBelow i g))) ∙ at-joinBelow (λ i. word (g i)) n h j l
 
-pub words-written : (g : ℕ → ℕ) (n : ℕ) {i k : ℕ} → i < n → k ≡ 2 * i → wordAt (words n g) k ≡ g i
+wordsBelow-written : (g : ℕ → ℕ) (n : ℕ) {i k : ℕ} → i < n → k ≡ 2 * i → wordAt (wordsBelow n g) k ≡ g i
 unfolding wordAt word at
-words-written g n {i} {k} h e = omega (arith, byte-at g n h 0 {k = k} (omega arith) (omega arith), byte-at g n h 1 {k = k + 1} (omega arith) (omega arith))
+wordsBelow-written g n {i} {k} h e = omega (arith, byte-at g n h 0 {k = k} (omega arith) (omega arith), byte-at g n h 1 {k = k + 1} (omega arith) (omega arith))
 
 byte-again : (b : List ℕ) → AreBytes b → (i j : ℕ) {k : ℕ} → k ≡ 2 * i + j → j < 2 → at b k ≡ at (word (wordAt b (2 * i))) j
 unfolding wordAt word at
@@ -77,12 +77,28 @@ byte-again b bytes i (suc zero) e l = omega (arith, ap (at b) e, bytes (2 * i), 
 byte-again b bytes i (suc (suc j)) e l = absurd (omega arith)
 
 -- bytes, two for each of n numbers, are these numbers
-pub words-again : (n : ℕ) (b : List ℕ) → length b ≡ 2 * n → AreBytes b → words n (λ i. wordAt b (2 * i)) ≡ b
+wordsBelow-again : (n : ℕ) (b : List ℕ) → length b ≡ 2 * n → AreBytes b → wordsBelow n (λ i. wordAt b (2 * i)) ≡ b
 unfolding word
-words-again n b e bytes =
+wordsBelow-again n b e bytes =
     let two : (k : ℕ) → sumBelow k (λ x. 2) ≡ 2 * k = λ k. sumBelow-const 2 k ∙ omega arith in
     sym
     (joinBelow-by (λ k. 2) (λ i. word (wordAt b (2 * i))) n {l = b} (λ i h. refl) (e ∙ sym (two n)) (λ i j h l. byte-again b bytes i j (ap (λ s. s + j) (two i)) l))
+
+-- ---- the numbers of a list
+
+module _ (l : List ℕ) where
+  pub length-words : length (words l) ≡ 2 * length l
+  unfolding words
+  length-words = length-wordsBelow (length l) (at l)
+
+  pub words-written : {i : ℕ} → i < length l → wordAt (words l) (2 * i) ≡ at l i
+  unfolding words
+  words-written h = wordsBelow-written (at l) (length l) h refl
+
+  -- a list of what bytes have, two for each number, is these bytes
+  pub words-again : (b : List ℕ) → length b ≡ 2 * length l → AreBytes b → ((i : ℕ) → i < length l → at l i ≡ wordAt b (2 * i)) → words l ≡ b
+  unfolding words
+  words-again b e bytes h = joinBelow-same _ _ (length l) (λ i k. ap word (h i k)) ∙ wordsBelow-again (length l) b e bytes
 
 -- ---- the records of m pairs, whose buses are a 0 and b 0, a 1 and b 1, .. up to a (m - 1) and b (m - 1)
 
@@ -90,9 +106,9 @@ abbrev pub listed : (ℕ → ℕ) → (ℕ → ℕ) → ℕ → List ℕ
 listed a b m = joinBelow m (λ k. recordOf (a k) (b k))
 
 -- the numbers g 0, g 1, .. by twos
-words-paired : (m : ℕ) (g : ℕ → ℕ) → listed (λ k. g (2 * k)) (λ k. g (2 * k + 1)) m ≡ words (m * 2) g
+wordsBelow-paired : (m : ℕ) (g : ℕ → ℕ) → listed (λ k. g (2 * k)) (λ k. g (2 * k + 1)) m ≡ wordsBelow (m * 2) g
 unfolding recordOf joinBelow
-words-paired m g =
+wordsBelow-paired m g =
     joinBelow-same _ _ m (λ k h. let first : 2 * k ≡ k * 2 + 0 = omega arith in let second : 2 * k + 1 ≡ k * 2 + 1 = omega arith in ap₂ (λ x y. word (g x) ++ word (g y)) first second)
     ∙ sym (joinBelow-times m 2 (λ i. word (g i)))
 
@@ -109,22 +125,22 @@ module _ (a b : ℕ → ℕ) where
   unfolding mixed
   mixed-odd k = let q : (2 * k + 1) / 2 ≡ k = omega arith in rw (ne-eqb ((2 * k + 1) % 2) 0 (omega arith)) (ap b q)
 
-  listed-words : (m : ℕ) → listed a b m ≡ words (m * 2) mixed
-  listed-words m = joinBelow-same _ _ m (λ k h. ap₂ recordOf (sym (mixed-even k)) (sym (mixed-odd k))) ∙ words-paired m mixed
+  listed-words : (m : ℕ) → listed a b m ≡ wordsBelow (m * 2) mixed
+  listed-words m = joinBelow-same _ _ m (λ k h. ap₂ recordOf (sym (mixed-even k)) (sym (mixed-odd k))) ∙ wordsBelow-paired m mixed
 
   pub length-listed : (m : ℕ) → length (listed a b m) ≡ 4 * m
-  length-listed m = ap length (listed-words m) ∙ length-words (m * 2) mixed ∙ omega arith
+  length-listed m = ap length (listed-words m) ∙ length-wordsBelow (m * 2) mixed ∙ omega arith
 
   module _ (m : ℕ) {k : ℕ} (h : k < m) where
     pub first-written : firstEnd (listed a b m) k ≡ a k
-    first-written = ap (λ l. wordAt l (4 * k)) (listed-words m) ∙ words-written mixed (m * 2) {i = 2 * k} (omega arith) (omega arith) ∙ mixed-even k
+    first-written = ap (λ l. wordAt l (4 * k)) (listed-words m) ∙ wordsBelow-written mixed (m * 2) {i = 2 * k} (omega arith) (omega arith) ∙ mixed-even k
 
     pub second-written : secondEnd (listed a b m) k ≡ b k
-    second-written = ap (λ l. wordAt l (4 * k + 2)) (listed-words m) ∙ words-written mixed (m * 2) {i = 2 * k + 1} (omega arith) (omega arith) ∙ mixed-odd k
+    second-written = ap (λ l. wordAt l (4 * k + 2)) (listed-words m) ∙ wordsBelow-written mixed (m * 2) {i = 2 * k + 1} (omega arith) (omega arith) ∙ mixed-odd k
 
 -- bytes, four for each of m records, are the records of the pairs that they name
 pub records-listed : (m : ℕ) (r : List ℕ) → length r ≡ 4 * m → AreBytes r → listed (firstEnd r) (secondEnd r) m ≡ r
 records-listed m r e bytes =
     joinBelow-same _ _ m (λ k h. let first : 4 * k ≡ 2 * (2 * k) = omega arith in let second : 4 * k + 2 ≡ 2 * (2 * k + 1) = omega arith in ap₂ (λ x y. recordOf (wordAt r x) (wordAt r y)) first second)
-    ∙ words-paired m (λ i. wordAt r (2 * i))
-    ∙ words-again (m * 2) r (omega arith) bytes
+    ∙ wordsBelow-paired m (λ i. wordAt r (2 * i))
+    ∙ wordsBelow-again (m * 2) r (omega arith) bytes
