@@ -4,10 +4,11 @@ ghost use Prim.Native.Nat.{_+_, _≤_, _<_};
 ghost use lib.ListN.{length};
 ghost use Rattle.lists.specs.Lists.{WrittenAt};
 ghost use Rattle.refusals.specs.WrittenAnswer.{outcomeOfWritten};
-ghost use Rattle.table_spec.specs.Layout.{busCount, row};
+ghost use Rattle.table_spec.specs.Layout.{busCount, weights, row};
 ghost use Rattle.table_spec.specs.Holds.{NeedsInRange, Holds};
-ghost use Rattle.write_spec.specs.FileOf.{word, pairRecords, fileOf};
+ghost use Rattle.write_spec.specs.FileOf.{word, words, pairRecords, allOnes, weightSection, fileOf};
 ghost use Rattle.write_spec.specs.WriteOutcome.{writeOutcome, bytesAfter};
+ghost use Rattle.writer.specs.FileFront.{frontOf};
 ghost use Rattle.writer.specs.RowRecords.{recordAbove, rowRecords};
 pub use network::Refusal;
 use network::rows::entry;
@@ -15,6 +16,7 @@ use network::table::bus_count;
 use network::table::lines;
 use network::table::needs;
 use network::table::neighbours;
+use network::table::weights;
 pub use refusals::Written;
 use table_check::holds;
 
@@ -82,15 +84,77 @@ fn write_pairs(table: &[u16], out: &mut [u8], at: usize) -> usize
     end
 }
 
-// Writes the file of a network at the front of bytes that are enough, and gives its byte count.
-fn write_file(table: &[u16], out: &mut [u8]) -> usize
-    requires { ⌜ Holds (now table) × (length (fileOf (now table)) ≤ length (now out)) ⌝ }
-    ensures { λ r. ⌜ WrittenAt (fileOf (now (table .entry))) 0 (now (out .entry)) r (now (out .exit)) ⌝ }
+// Writes the file of a network up to its weights at the front of bytes that are enough, and gives the place behind it.
+fn write_front(table: &[u16], out: &mut [u8]) -> usize
+    requires { ⌜ Holds (now table) × (length (frontOf (now table)) ≤ length (now out)) ⌝ }
+    ensures { λ r. ⌜ WrittenAt (frontOf (now (table .entry))) 0 (now (out .entry)) r (now (out .exit)) ⌝ }
 {
     let needs_at = write_word(bus_count(table), out, 0);
     let lines_at = write_needs(needs(table), out, needs_at);
     let pairs_at = write_word(lines(table), out, lines_at);
     write_pairs(table, out, pairs_at)
+}
+
+// Whether all weights are 1.
+fn all_ones(weights: &[u16]) -> bool
+    ensures { λ b. ⌜ b ≡ allOnes (now (weights .entry)) ⌝ }
+{
+    let mut bus = 0;
+    while bus < weights.len() {
+        if entry(weights, bus) != 1 {
+            return false;
+        }
+        bus += 1;
+    }
+    true
+}
+
+// Writes each weight in two bytes, and gives the place behind them.
+fn write_weights(weights: &[u16], out: &mut [u8], at: usize) -> usize
+    requires { ⌜ at + length (words (now weights)) ≤ length (now out) ⌝ }
+    ensures { λ r. ⌜ WrittenAt (words (now (weights .entry))) at (now (out .entry)) r (now (out .exit)) ⌝ }
+{
+    let mut end = at;
+    let mut bus = 0;
+    while bus < weights.len() {
+        end = write_word(entry(weights, bus), out, end);
+        bus += 1;
+    }
+    end
+}
+
+// Writes the section of weights, unless all are 1, and gives the place behind it.
+fn write_section(weights: &[u16], ones: bool, out: &mut [u8], at: usize) -> usize
+    requires { ⌜ (ones ≡ allOnes (now weights)) × (length (now weights) < 65536) × (at + length (weightSection (now weights)) ≤ length (now out)) ⌝ }
+    ensures { λ r. ⌜ WrittenAt (weightSection (now (weights .entry))) at (now (out .entry)) r (now (out .exit)) ⌝ }
+{
+    if ones {
+        return at;
+    }
+    let weights_at = write_word(weights.len(), out, at);
+    write_weights(weights, out, weights_at)
+}
+
+// How many bytes the file of a network has; `ones` says whether all weights are 1.
+fn byte_count(table: &[u16], ones: bool) -> usize
+    requires { ⌜ Holds (now table) × (ones ≡ allOnes (weights (now table))) ⌝ }
+    ensures { λ r. ⌜ r ≡ length (fileOf (now (table .entry))) ⌝ }
+{
+    let n = bus_count(table);
+    let front = 2 + n + 2 + 4 * lines(table);
+    if ones {
+        return front;
+    }
+    front + 2 + 2 * n
+}
+
+// Writes the file of a network at the front of bytes that are enough, and gives its byte count.
+fn write_file(table: &[u16], ones: bool, out: &mut [u8]) -> usize
+    requires { ⌜ Holds (now table) × (ones ≡ allOnes (weights (now table))) × (length (fileOf (now table)) ≤ length (now out)) ⌝ }
+    ensures { λ r. ⌜ WrittenAt (fileOf (now (table .entry))) 0 (now (out .entry)) r (now (out .exit)) ⌝ }
+{
+    let weights_at = write_front(table, out);
+    write_section(weights(table), ones, out, weights_at)
 }
 
 // Writes the file of a network at the front of lent bytes.
@@ -101,10 +165,10 @@ pub fn write(table: &[u16], out: &mut [u8]) -> Written
     if !holds(table) {
         return Written::Refused(Refusal::NoNetwork);
     }
-    let bytes = 2 + bus_count(table) + 2 + 4 * lines(table);
-    if out.len() < bytes {
+    let ones = all_ones(weights(table));
+    if out.len() < byte_count(table, ones) {
         return Written::Refused(Refusal::BytesTooShort);
     }
-    let end = write_file(table, out);
+    let end = write_file(table, ones, out);
     Written::Bytes(end)
 }
