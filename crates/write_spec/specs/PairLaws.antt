@@ -1,5 +1,5 @@
 -- The records of a network's file are those of its pairs of neighbours.
-use mathlib.Core.Bool.{cond}
+use mathlib.Core.Bool.{Bool, cond}
 use mathlib.Core.List.{List}
 use mathlib.Core.Path.{_≡_, ap, _∙_}
 use Prim.Native.Nat.{ℕ, _+_, _*_, _≤_}
@@ -33,9 +33,12 @@ module _ (t : List ℕ) (w : Holds t) where
   unfolding fileOf
   length-fileOf = length-sections n (lines t) (needs t) (pairRecords n (row t)) (weightSection (weights t)) (length-needs t (w .shape .complete)) length-pairRecords
 
-  -- two for each bus and its count are those of the weights, unless all are 1
-  pub length-weightSection : length (weightSection (weights t)) ≡ cond (allOnes (weights t)) 0 (2 + 2 * busCount t)
+  length-weightSection : length (weightSection (weights t)) ≡ cond (allOnes (weights t)) 0 (2 + 2 * busCount t)
   length-weightSection = length-section (weights t) ∙ ap (λ k. cond (allOnes (weights t)) 0 (2 + 2 * k)) (length-weights t (w .shape .complete))
+
+  -- as code counts them: the bus count was read into k, the number of lines into m, and whether all weights are 1 into ones
+  pub bytes-read : {k m : ℕ} {ones : Bool} → k ≡ busCount t → m ≡ lines t → ones ≡ allOnes (weights t) → length (fileOf t) ≡ 2 + k + 2 + 4 * m + cond ones 0 (2 + 2 * k)
+  bytes-read ek em eo = rw (ek, em, eo) (length-fileOf ∙ ap (λ x. 2 + busCount t + 2 + 4 * lines t + x) length-weightSection)
 
   pub weightSection-le : length (weightSection (weights t)) ≤ 2 + 2 * busCount t
   weightSection-le = split (allOnes (weights t)) (λ e. omega (arith, rw e at length-weightSection)) (λ e. omega (arith, rw e at length-weightSection))
