@@ -1,9 +1,9 @@
 // Line tables in lent slices: where a table has what. Row starts begin at `from`.
 ghost use mathlib.Core.Path.{_≡_};
-ghost use Prim.Native.Nat.{_+_, _*_, _≤_, _<_};
+ghost use Prim.Native.Nat.{_+_, _≤_, _<_};
 ghost use lib.ListN.{length};
 ghost use Rattle.table_spec.specs.Limits.{maxBuses, maxWeight, maxLines};
-ghost use Rattle.table_spec.specs.Layout.{busCount, needs, weights, need, weight, starts, neighbourNumbers, startsAt, row, rowStart, lines, tableEntries};
+ghost use Rattle.table_spec.specs.Layout.{busCount, needs, weightsFrom, startsFrom, weights, need, weight, starts, neighbourNumbers, startsAt, row, rowStart, lines, tableEntries};
 ghost use Rattle.table_spec.specs.Holds.{Complete, Scorable, Holds};
 use super::rows::entry;
 use super::rows::row_at;
@@ -25,13 +25,31 @@ pub fn needs(table: &[u16]) -> &[u16]
     &table[1..1 + n]
 }
 
+// Where the weights of n buses begin.
+pub fn weights_from(n: usize) -> usize
+    requires { ⌜ n < 65536 ⌝ }
+    ensures { λ r. ⌜ r ≡ weightsFrom n ⌝ }
+{
+    1 + n
+}
+
+// Where the row starts of n buses begin.
+pub fn starts_from(n: usize) -> usize
+    requires { ⌜ n < 65536 ⌝ }
+    ensures { λ r. ⌜ r ≡ startsFrom n ⌝ }
+{
+    1 + 2 * n
+}
+
 // The weights.
 pub fn weights(table: &[u16]) -> &[u16]
-    requires { ⌜ 1 + 2 * busCount (now table) ≤ length (now table) ⌝ }
+    requires { ⌜ startsAt (now table) ≤ length (now table) ⌝ }
     ensures { λ r. ⌜ now r ≡ weights (now (table .entry)) ⌝ }
 {
     let n = bus_count(table);
-    &table[1 + n..1 + 2 * n]
+    let from = weights_from(n);
+    let end = starts_from(n);
+    &table[from..end]
 }
 
 // Where a network's row starts begin.
@@ -39,7 +57,7 @@ pub fn starts_at(table: &[u16]) -> usize
     requires { ⌜ 1 ≤ length (now table) ⌝ }
     ensures { λ r. ⌜ (r ≡ startsAt (now (table .entry))) × (r ≤ 131072) ⌝ }
 {
-    1 + 2 * bus_count(table)
+    starts_from(bus_count(table))
 }
 
 // The row starts.

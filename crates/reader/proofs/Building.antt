@@ -11,7 +11,7 @@ use Rattle.lists.specs.Below.{anyBelow}
 use Rattle.lists.specs.Loops.{anyBelow-same}
 use Rattle.lists.specs.Writes.{stored-list}
 use Rattle.table_spec.specs.Limits.{maxDegree}
-use Rattle.table_spec.specs.Layout.{laid, tableOf}
+use Rattle.table_spec.specs.Layout.{laid, weightsFrom, startsFrom, tableOf}
 use Rattle.table_spec.specs.Holds.{needsCanBeMet}
 use Rattle.table_spec.specs.Facts.{met-same}
 use Rattle.table_spec.specs.Laid.{length-laid}
@@ -34,10 +34,10 @@ pub above-counted : (q : List ℕ) {m : ℕ} {r counts : List ℕ} → Neighbour
     → not (needsCanBeMet (length q) q (at counts)) ≡ needAboveDegree (length q) q m r
 above-counted q w = ap not (met-same (length q) q (w .each))
 
--- the bus count and the needs q were written into a slice that held t, then the weights w, and then the rows
-pub built : (t q w : List ℕ) (rows : ℕ → List ℕ) {t₁ t₂ t₃ : List ℕ} → length w ≡ length q → t₁ ≡ put t 0 (length q ∷ q) → t₂ ≡ put t₁ (1 + length q) w
-    → t₃ ≡ put t₂ (1 + 2 * length q) (laid (length q) rows) → t₃ ≡ put t 0 (tableOf (length q) q w rows)
+-- the bus count and the needs q were written into a slice that held t, then the weights w at a, and then the rows at b
+pub built : (t q w : List ℕ) (rows : ℕ → List ℕ) {a b : ℕ} {t₁ t₂ t₃ : List ℕ} → length w ≡ length q → a ≡ weightsFrom (length q) → b ≡ startsFrom (length q)
+    → t₁ ≡ put t 0 (length q ∷ q) → t₂ ≡ put t₁ a w → t₃ ≡ put t₂ b (laid (length q) rows) → t₃ ≡ put t 0 (tableOf (length q) q w rows)
 unfolding tableOf
-built t q w rows {t₁} {t₂} wide first second third =
+built t q w rows {t₂ = t₂} wide ea eb first second third =
     let both : t₂ ≡ put t 0 (length q ∷ q ++ w) = second ∙ stored-list t 0 (length q ∷ q) first (omega arith) w (omega arith) in
     third ∙ stored-list t 0 (length q ∷ q ++ w) both (omega (arith, length-append q w)) (laid (length q) rows) (omega arith)

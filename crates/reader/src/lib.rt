@@ -29,6 +29,8 @@ use file_sections::weight_in;
 use network::Network;
 pub use network::Refusal;
 use network::table::entries;
+use network::table::starts_from;
+use network::table::weights_from;
 use row_builder::degree_too_high;
 use row_builder::needs_can_be_met;
 use row_builder::zero_counts;
@@ -73,8 +75,8 @@ fn store_table(
 {
     let n = needs.len();
     store_needs(needs, table);
-    store_weights(weights, n, table, 1 + n);
-    store_rows(section, n, m, counts, table, 1 + 2 * n);
+    store_weights(weights, n, table, weights_from(n));
+    store_rows(section, n, m, counts, table, starts_from(n));
 }
 
 // Reads m records that are sound and in order, of buses with these needs and weights.

@@ -1,13 +1,13 @@
 -- Entries beyond the table never matter: slices that begin with the same table are judged alike and give the same answers.
 use mathlib.Core.List.{List, _++_}
 use mathlib.Core.Path.{_≡_, refl, sym, ap, _∙_}
-use Prim.Native.Nat.{ℕ, _+_, _*_, _≤_}
+use Prim.Native.Nat.{ℕ, _+_, _≤_}
 use native.Mathlib.Omega.{arith}
 use borrow.Author.Tests.{le-leb}
 use lib.ListN.{length, length-append}
 use Rattle.lists.specs.Lists.{at}
 use Rattle.lists.specs.Places.{at-append, part-append}
-use Rattle.table_spec.specs.Layout.{busCount, needs, weights, starts, last, entries, neighbourNumbers, startsAt, row}
+use Rattle.table_spec.specs.Layout.{busCount, needs, weights, starts, last, entries, neighbourNumbers, weightsFrom, startsAt, row}
 use Rattle.table_spec.specs.Rows.{needs-read, weights-read, starts-read}
 use Rattle.table_spec.specs.Holds.{complete, twoWay, holds}
 use Rattle.table_spec.specs.TableOutcomes.{SameNetwork}
@@ -43,7 +43,7 @@ module _ (t x : List ℕ) (w : entries (startsAt t) t ≤ length t) where
 
   weights-on : weights (t ++ x) ≡ weights t
   weights-on =
-      sym (weights-read (t ++ x) (sym (busCount-on (startsAt t) t x w))) ∙ part-append (1 + busCount t) (1 + 2 * busCount t) t x (omega arith) ∙ weights-read t refl
+      sym (weights-read (t ++ x) (sym (busCount-on (startsAt t) t x w))) ∙ part-append (weightsFrom (busCount t)) (startsAt t) t x (omega arith) ∙ weights-read t refl
 
   holds-on : holds (t ++ x) ≡ holds t
   unfolding holds row

@@ -11,7 +11,7 @@ use Rattle.lists.specs.Places.{at-append, at-behind, part-between}
 use Rattle.lists.specs.Loops.{joinBelow-next}
 use Rattle.lists.specs.JoinBelow.{length-mapBelow, mapBelow-at, joinBelow-at, mapBelow-same, joinBelow-same}
 use Rattle.table_spec.specs.Limits.{maxBuses, maxDegree, maxWeight}
-use Rattle.table_spec.specs.Layout.{rowAt, laid, busCount, needs, weights, starts, last, entries, neighbourNumbers, startsAt, row, tableOf}
+use Rattle.table_spec.specs.Layout.{rowAt, laid, busCount, needs, weights, starts, last, entries, neighbourNumbers, weightsFrom, startsFrom, startsAt, row, tableOf}
 use Rattle.table_spec.specs.Holds.{canBeMet, NeedsInRange, WeightsInRange, ValidRow, SoundRows, Mirrored, Scorable, Holds}
 use Rattle.table_spec.specs.TableOutcomes.{SameNetwork}
 use Rattle.table_spec.specs.BeyondTable.{beyond}
@@ -120,8 +120,8 @@ module _ (n : ℕ) (q w : List ℕ) (rows : ℕ → List ℕ) (rest : List ℕ) 
   pub made-weights : weights made ≡ w
   unfolding weights
   made-weights =
-      ap₂ (λ k t. part (1 + k) (1 + 2 * k) t) made-busCount (shape ∙ append-assoc (n ∷ q) w (laid n rows ++ rest))
-      ∙ part-between (n ∷ q) w (laid n rows ++ rest) {a = 1 + n} {e = 1 + 2 * n} (omega (arith, long)) (omega (arith, wide))
+      ap₂ (λ k t. part (weightsFrom k) (startsFrom k) t) made-busCount (shape ∙ append-assoc (n ∷ q) w (laid n rows ++ rest))
+      ∙ part-between (n ∷ q) w (laid n rows ++ rest) {a = weightsFrom n} {e = startsFrom n} (omega (arith, long)) (omega (arith, wide))
 
   pub made-last : last (startsAt made) made ≡ length (joinBelow n rows)
   made-last = last-back n rows (n ∷ q ++ w) rest shape begin made-busCount

@@ -10,7 +10,7 @@ use Rattle.lists.specs.Lists.{at, part}
 use Rattle.lists.specs.Below.{joinBelow, mapBelow}
 use Rattle.lists.specs.Places.{take-next, take-part}
 use Rattle.lists.specs.JoinBelow.{length-joinBelow, mapBelow-same, mapBelow-entries}
-use Rattle.table_spec.specs.Layout.{rowAt, laid, busCount, needs, weights, starts, entries, neighbourNumbers, startsAt, row, tableOf}
+use Rattle.table_spec.specs.Layout.{rowAt, laid, busCount, needs, weights, starts, entries, neighbourNumbers, weightsFrom, startsAt, row, tableOf}
 use Rattle.table_spec.specs.Holds.{SoundRows, Scorable}
 use Rattle.table_spec.specs.Rows.{length-starts, length-numbers, last-start}
 use Rattle.table_spec.specs.LineCount.{start-sum}
@@ -44,9 +44,9 @@ module _ (t : List ℕ) (w : Scorable t) where
   first-sections : n ∷ needs t ++ weights t ≡ take from t
   unfolding needs weights
   first-sections =
-      ap (λ r. (r ++ part 1 (1 + n) t) ++ part (1 + n) from t) (sym (take-next 0 t (omega (arith, w .complete .whole))))
-      ∙ ap (λ r. r ++ part (1 + n) from t) (take-part 1 (1 + n) t (omega arith))
-      ∙ take-part (1 + n) from t (omega arith)
+      ap (λ r. (r ++ part 1 (1 + n) t) ++ part (weightsFrom n) from t) (sym (take-next 0 t (omega (arith, w .complete .whole))))
+      ∙ ap (λ r. r ++ part (weightsFrom n) from t) (take-part 1 (1 + n) t (omega arith))
+      ∙ take-part (weightsFrom n) from t (omega arith)
 
   other-sections : take from t ++ (starts from t ++ neighbourNumbers from t) ≡ take (entries from t) t
   unfolding starts neighbourNumbers

@@ -49,13 +49,18 @@ neighbourNumbers from t = part (from + busCount t + 1) (entries from t) t
 
 -- ---- a network's table
 
--- n weights, behind the needs
-unfoldable pub weights : List ℕ → List ℕ
-weights t = part (1 + busCount t) (1 + 2 * busCount t) t
+-- its n weights begin behind the needs, and its row starts behind the weights
+abbrev pub weightsFrom : ℕ → ℕ
+weightsFrom n = 1 + n
 
--- behind them begin its row starts
+abbrev pub startsFrom : ℕ → ℕ
+startsFrom n = 1 + 2 * n
+
+unfoldable pub weights : List ℕ → List ℕ
+weights t = part (weightsFrom (busCount t)) (startsFrom (busCount t)) t
+
 abbrev pub startsAt : List ℕ → ℕ
-startsAt t = 1 + 2 * busCount t
+startsAt t = startsFrom (busCount t)
 
 -- the neighbours of bus i
 unfoldable pub row : List ℕ → ℕ → List ℕ

@@ -1,7 +1,7 @@
 -- Laws of rows and of the sections of a table.
 use mathlib.Core.List.{List}
 use mathlib.Core.Path.{_≡_, sym, ap, ap₂, _∙_}
-use Prim.Native.Nat.{ℕ, _+_, _*_, _≤_, _<_}
+use Prim.Native.Nat.{ℕ, _+_, _≤_, _<_}
 use native.Mathlib.Nat.{le-refl, le-trans}
 use native.Mathlib.Numerals.{add-one}
 use native.Mathlib.Decide.{le-ind}
@@ -11,7 +11,7 @@ use Rattle.lists.specs.Lists.{_∈_, without, at, part, Once}
 use Rattle.lists.specs.Places.{length-part, at-part, part-part, ascending-once, at-in, in-at}
 use Rattle.lists.specs.Without.{of-without, ascends-without}
 use Rattle.table_spec.specs.Limits.{maxDegree}
-use Rattle.table_spec.specs.Layout.{rowAt, rowSize, busCount, needs, weights, starts, last, entries, neighbourNumbers, startsAt, row, rowStart, degree}
+use Rattle.table_spec.specs.Layout.{rowAt, rowSize, busCount, needs, weights, starts, last, entries, neighbourNumbers, weightsFrom, startsFrom, startsAt, row, rowStart, degree}
 use Rattle.table_spec.specs.Holds.{Complete, Spans, ValidRow, Scorable}
 
 -- a row between the starts a and e, as code reads it
@@ -63,9 +63,9 @@ pub needs-read : (t : List ℕ) {n : ℕ} → n ≡ busCount t → part 1 (1 + n
 unfolding needs
 needs-read t e = ap (λ n. part 1 (1 + n) t) e
 
-pub weights-read : (t : List ℕ) {n : ℕ} → n ≡ busCount t → part (1 + n) (1 + 2 * n) t ≡ weights t
+pub weights-read : (t : List ℕ) {n : ℕ} → n ≡ busCount t → part (weightsFrom n) (startsFrom n) t ≡ weights t
 unfolding weights
-weights-read t e = ap (λ n. part (1 + n) (1 + 2 * n) t) e
+weights-read t e = ap (λ n. part (weightsFrom n) (startsFrom n) t) e
 
 pub starts-read : (from : ℕ) (t : List ℕ) {n : ℕ} → n ≡ busCount t → part from (from + n + 1) t ≡ starts from t
 unfolding starts
@@ -95,7 +95,7 @@ length-needs t w = let a = length-part 1 (1 + busCount t) t (omega (arith, w .wh
 
 pub length-weights : (t : List ℕ) → Complete (startsAt t) t → length (weights t) ≡ busCount t
 unfolding weights
-length-weights t w = let a = length-part (1 + busCount t) (1 + 2 * busCount t) t (omega (arith, w .whole)) in omega arith
+length-weights t w = let a = length-part (weightsFrom (busCount t)) (startsAt t) t (omega (arith, w .whole)) in omega arith
 
 module _ (from : ℕ) (t : List ℕ) (w : Complete from t) where
   pub length-starts : length (starts from t) ≡ busCount t + 1
