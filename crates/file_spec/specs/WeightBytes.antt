@@ -1,12 +1,11 @@
 -- Laws of the weights that the bytes of a section give n buses: two bytes for each, or none, and all weights are 1.
 use mathlib.Core.Bool.{true}
-use mathlib.Core.List.{List, []}
-use mathlib.Core.Path.{_≡_, ap, ap₂, _∙_}
+use mathlib.Core.List.{List, [], _∷_}
+use mathlib.Core.Path.{_≡_, refl, ap, ap₂, _∙_}
 use Prim.Native.Nat.{ℕ, _+_, _*_, _≤_, _<_}
 use native.Mathlib.Omega.{arith}
 use borrow.Author.Tests.{eq-eqb, ne-eqb}
-use lib.ListN.{length, drop, length-take, length-drop}
-use lib.Seq.{ext-getD}
+use lib.ListN.{length, length-take, length-drop}
 use Rattle.lists.specs.Lists.{at, part}
 use Rattle.lists.specs.Below.{allBelow, mapBelow}
 use Rattle.lists.specs.Loops.{allBelow-by, allBelow-same}
@@ -37,13 +36,15 @@ module _ (b : List ℕ) where
   pub ones-range : length b ≡ 0 → (n : ℕ) → weightsInRange (mapBelow n (weightIn b)) ≡ true
   ones-range e n = weights-range n ∙ allBelow-by _ n (λ i l. rw (weight-none e i) (within-test 1 maxWeight 1 (omega arith) (omega arith)))
 
+no-entries : (l : List ℕ) → length l ≡ 0 → l ≡ []
+no-entries [] e = refl
+no-entries (x ∷ l) e = absurd (omega arith)
+
 -- how many bytes a file has for them
 module _ (f : List ℕ) where
   pub weightBytes-none : length f ≤ weightsAt f → weightBytes f ≡ []
   unfolding weightBytes
-  weightBytes-none h =
-      let e : length (part (weightsAt f) (weightsEnd f) f) ≡ 0 = simp (length-take, length-drop) (omega arith) in
-      ext-getD 0 (part (weightsAt f) (weightsEnd f) f) [] e (λ k b. absurd (omega arith))
+  weightBytes-none h = no-entries _ (simp (length-take, length-drop) (omega arith))
 
   pub length-weightBytes : weightsEnd f ≤ length f → length (weightBytes f) ≡ 2 * fileBusCount f
   unfolding weightBytes

@@ -3,15 +3,13 @@ use mathlib.Core.Bool.{true, _&&_}
 use mathlib.Core.List.{List}
 use mathlib.Core.Path.{_≡_, refl}
 use Prim.Native.Nat.{ℕ, _<_}
-use native.Mathlib.Omega.{arith}
 use lib.ListN.{length}
 use Rattle.lists.specs.Tests.{and-left, and-right}
 use Rattle.refusals.specs.Outcomes.{Outcome}
-use Rattle.table_spec.specs.Limits.{maxNeed, maxWeight}
-use Rattle.table_spec.specs.Layout.{busCount, needs, weights, starts, neighbourNumbers, startsAt}
-use Rattle.table_spec.specs.Holds.{complete, needsInRange, weightsInRange, soundRows, Scorable, Holds}
-use Rattle.table_spec.specs.Rows.{length-needs, length-weights, room}
-use Rattle.table_spec.specs.Facts.{complete-facts, range-facts, rows-facts}
+use Rattle.table_spec.specs.Layout.{busCount, starts, neighbourNumbers, startsAt}
+use Rattle.table_spec.specs.Holds.{soundBuses, soundRows, Scorable, Holds}
+use Rattle.table_spec.specs.Rows.{room}
+use Rattle.table_spec.specs.Facts.{buses-facts, rows-facts}
 use Rattle.share_spec.specs.Network.{Sound}
 use Rattle.share_spec.specs.FairFormula.{watching-converse, same-game}
 use Rattle.share_spec.specs.Formula.{numeratorOver}
@@ -28,20 +26,14 @@ scorable t w =
     let n = busCount t in
     let s = starts (startsAt t) t in
     let l = neighbourNumbers (startsAt t) t in
-    let w3 = and-left (complete (startsAt t) t && needsInRange (needs t) && weightsInRange (weights t) && soundRows n s l) _ w in
-    let w2 = and-left (complete (startsAt t) t && needsInRange (needs t) && weightsInRange (weights t)) _ w3 in
-    let w1 = and-left (complete (startsAt t) t && needsInRange (needs t)) _ w2 in
-    let c = complete-facts (startsAt t) t (and-left (complete (startsAt t) t) _ w1) in
-    let f = range-facts maxNeed (needs t) (and-right (complete (startsAt t) t) _ w1) in
-    let h = range-facts maxWeight (weights t) (and-right (complete (startsAt t) t && needsInRange (needs t)) _ w2) in
-    let g = room (startsAt t) t c in
-    let many = length-needs t c in
-    let long = length-weights t c in
+    let w1 = and-left (soundBuses t && soundRows n s l) _ w in
+    let c = buses-facts t (and-left (soundBuses t) _ w1) in
+    let g = room (startsAt t) t (c .complete) in
     record {
-      complete = c;
-      needed = λ i b. f i (omega arith) .0;
-      weighed = λ i b. h i (omega arith) .1;
-      rows = rows-facts n s l (g .0) (g .1) (and-right (complete (startsAt t) t && needsInRange (needs t) && weightsInRange (weights t)) _ w3);
+      complete = c .complete;
+      needed = λ i b. c .needed i b .0;
+      weighed = λ i b. c .weighed i b .1;
+      rows = rows-facts n s l (g .0) (g .1) (and-right (soundBuses t) _ w1);
     }
 
 pub held-sound : (t : List ℕ) → holdsOneWay t ≡ true → Sound (oneWay t)

@@ -14,7 +14,7 @@ use Rattle.lists.specs.Loops.{allBelow-at, allBelow-by, allBelow-same}
 use Rattle.table_spec.specs.Limits.{maxBuses, maxDegree, maxNeed, maxWeight}
 use Rattle.table_spec.specs.Layout.{rowAt, rowSize, busCount, needs, weights, starts, entries, neighbourNumbers, startsAt, row}
 use Rattle.table_spec.specs.Rows.{row-length, last-read, length-needs, length-weights, room}
-use Rattle.table_spec.specs.Holds.{within, agree, complete, inRange, needsInRange, weightsInRange, neverFall, shortRows, validEntry, validRow, validRows, soundRows, mirrored, twoWay, canBeMet, needsCanBeMet, holds, Complete, InRange, NeedsInRange, WeightsInRange, Steps, ValidRow, SoundRows, Mirrored, Holds}
+use Rattle.table_spec.specs.Holds.{within, agree, complete, inRange, needsInRange, weightsInRange, soundBuses, neverFall, shortRows, validEntry, validRow, validRows, soundRows, mirrored, twoWay, canBeMet, needsCanBeMet, holds, Complete, InRange, NeedsInRange, WeightsInRange, SoundBuses, Steps, ValidRow, SoundRows, Mirrored, Holds}
 
 pub within-test : (a b x : ℕ) → a ≤ x → x ≤ b → within a b x ≡ true
 unfolding within
@@ -189,25 +189,28 @@ module _ (t : List ℕ) where
   pub holds-weights : Holds t → WeightsInRange (weights t)
   holds-weights w i b = let l : i < busCount t = omega (arith, length-weights t (w .shape .complete)) in (w .weighty i l, w .shape .weighed i l)
 
+  pub buses-facts : soundBuses t ≡ true → SoundBuses t
+  buses-facts w =
+      let from = startsAt t in
+      let w1 = and-left (complete from t && needsInRange (needs t)) _ w in
+      let c = complete-facts from t (and-left (complete from t) _ w1) in
+      let f = range-facts maxNeed (needs t) (and-right (complete from t) _ w1) in
+      let g = range-facts maxWeight (weights t) (and-right (complete from t && needsInRange (needs t)) _ w) in
+      record { complete = c; needed = λ i b. f i (omega (arith, length-needs t c)); weighed = λ i b. g i (omega (arith, length-weights t c)) }
+
   pub holds-facts : holds t ≡ true → Holds t
   unfolding holds
   holds-facts w =
       let from = startsAt t in
-      let w3 = and-left (complete from t && needsInRange (needs t) && weightsInRange (weights t) && twoWay from t) _ w in
-      let w2 = and-left (complete from t && needsInRange (needs t) && weightsInRange (weights t)) _ w3 in
-      let w1 = and-left (complete from t && needsInRange (needs t)) _ w2 in
-      let c = complete-facts from t (and-left (complete from t) _ w1) in
-      let f = range-facts maxNeed (needs t) (and-right (complete from t) _ w1) in
-      let g = range-facts maxWeight (weights t) (and-right (complete from t && needsInRange (needs t)) _ w2) in
-      let r = two-way-facts from t c (and-right (complete from t && needsInRange (needs t) && weightsInRange (weights t)) _ w3) in
-      let many = length-needs t c in
-      let long = length-weights t c in
+      let w1 = and-left (soundBuses t && twoWay from t) _ w in
+      let s = buses-facts (and-left (soundBuses t) _ w1) in
+      let r = two-way-facts from t (s .complete) (and-right (soundBuses t) _ w1) in
       record {
-        shape = record { complete = c; needed = λ i b. f i (omega arith) .0; weighed = λ i b. g i (omega arith) .1; rows = r .0 };
+        shape = record { complete = s .complete; needed = λ i b. s .needed i b .0; weighed = λ i b. s .weighed i b .1; rows = r .0 };
         mirrored = r .1;
-        weighty = λ i b. g i (omega arith) .0;
-        limited = λ i b. f i (omega arith) .1;
-        met = λ i b. allBelow-at _ (busCount t) (and-right (complete from t && needsInRange (needs t) && weightsInRange (weights t) && twoWay from t) _ w) b;
+        weighty = λ i b. s .weighed i b .0;
+        limited = λ i b. s .needed i b .1;
+        met = λ i b. allBelow-at _ (busCount t) (and-right (soundBuses t && twoWay from t) _ w) b;
       }
 
   pub holds-test : Holds t → holds t ≡ true

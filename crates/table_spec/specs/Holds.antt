@@ -38,6 +38,10 @@ needsInRange q = inRange maxNeed q
 abbrev pub weightsInRange : List ℕ → Bool
 weightsInRange w = inRange maxWeight w
 
+-- whichever way lines run, a table has all its entries, and its needs and weights are in range
+abbrev pub soundBuses : List ℕ → Bool
+soundBuses t = complete (startsAt t) t && needsInRange (needs t) && weightsInRange (weights t)
+
 -- starts never fall
 unfoldable pub neverFall : ℕ → List ℕ → Bool
 neverFall n s = allBelow n (λ i. leb (at s i) (at s (i + 1)))
@@ -79,9 +83,7 @@ needsCanBeMet n q degrees = allBelow n (λ i. canBeMet (at q i) (degrees i))
 
 -- a slice holds a network
 unfoldable pub holds : List ℕ → Bool
-holds t =
-    complete (startsAt t) t && needsInRange (needs t) && weightsInRange (weights t) && twoWay (startsAt t) t
-    && needsCanBeMet (busCount t) (needs t) (degree t)
+holds t = soundBuses t && twoWay (startsAt t) t && needsCanBeMet (busCount t) (needs t) (degree t)
 
 -- ---- the same as facts
 
@@ -98,6 +100,11 @@ NeedsInRange q = InRange maxNeed q
 
 abbrev pub WeightsInRange : List ℕ → Type 0
 WeightsInRange w = InRange maxWeight w
+
+pub record SoundBuses (t : List ℕ) : Type 0 where
+  pub complete : Complete (startsAt t) t
+  pub needed : (i : ℕ) → i < busCount t → (1 ≤ at (needs t) i) × (at (needs t) i ≤ maxNeed)
+  pub weighed : (i : ℕ) → i < busCount t → (1 ≤ at (weights t) i) × (at (weights t) i ≤ maxWeight)
 
 -- each row ends no earlier than it starts, and is short
 abbrev pub Steps : ℕ → List ℕ → Type 0
