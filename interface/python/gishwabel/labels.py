@@ -1,0 +1,74 @@
+"""The table of labels beside a network file: which bus has which of the planners' names.
+
+The table is a text. Its first line has the checksum of the network file that it belongs to, so that
+no label is shown for a file with other numbers; a row with a bus and its label follows for each
+bus.
+"""
+
+from __future__ import annotations
+
+import csv
+import hashlib
+import io
+import re
+from collections.abc import Sequence
+from pathlib import Path
+
+from gishwabel.texts import Fault, TextError, clean_label, decode, read_table
+
+
+def beside(network_file: Path) -> Path:
+    """Where the table of labels of a network file is.
+
+    >>> beside(Path("examples/ieee14.net")).name
+    'ieee14.labels'
+    """
+    return network_file.with_suffix(".labels")
+
+
+def encode(name: str, file: bytes, labels: Sequence[str]) -> bytes:
+    """The table of labels for the bytes of a network file, which is called ``name``.
+
+    >>> print(encode("two.net", b"", ["Nord", "Süd"]).decode().split("\\n", 1)[1], end="")
+    bus,label
+    0,Nord
+    1,Süd
+    """
+    text = io.StringIO()
+    text.write(f"# labels of {name}, sha256 {hashlib.sha256(file).hexdigest()}\n")
+    rows = csv.writer(text, lineterminator="\n")
+    rows.writerow(["bus", "label"])
+    rows.writerows(enumerate(labels))
+    return text.getvalue().encode()
+
+
+def parse(table: bytes, file: bytes, buses: int) -> list[str]:
+    """The labels of a network file's buses, from its table of labels.
+
+    A table that belongs to other bytes, or does not have one label for each bus, all different, is
+    a :class:`TextError`.
+
+    >>> parse(encode("two.net", b"file", ["Nord", "Süd"]), b"file", 2)
+    ['Nord', 'Süd']
+    """
+    first, _, rest = decode(table).partition("\n")
+    found = re.search(r"sha256 ([0-9a-f]{64})", first)
+    if not found:
+        raise TextError(Fault(1, "the checksum of the network file is missing"))
+    if found[1] != hashlib.sha256(file).hexdigest():
+        words = "the labels belong to other bytes than the network file has now; import it again"
+        raise TextError(Fault(1, words))
+    columns, rows = read_table("\n" + rest)  # with a line in front, so that lines count right
+    if columns != ["bus", "label"]:
+        raise TextError(Fault(2, "the columns must be bus and label"))
+    labels: list[str] = []
+    for line, cells in rows:
+        if cells["bus"] != str(len(labels)):
+            raise TextError(Fault(line, f"bus {len(labels)} must stand here"))
+        label = clean_label(cells["label"], line)
+        if label in labels:
+            raise TextError(Fault(line, f"the label {label!r} stands twice"))
+        labels.append(label)
+    if len(labels) != buses:
+        raise TextError(Fault(0, f"{len(labels)} labels for {buses} buses"))
+    return labels
