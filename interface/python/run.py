@@ -1,6 +1,5 @@
 """Runs the command from a clone of the repository, for ./gishwabel."""
 
-import signal
 import sys
 
 if sys.version_info < (3, 9):
@@ -8,6 +7,4 @@ if sys.version_info < (3, 9):
 
 from gishwabel.command import main  # noqa: E402
 
-# A reader that goes away, as head does, ends the command without a word.
-signal.signal(signal.SIGPIPE, signal.SIG_DFL)
 sys.exit(main())

@@ -2,7 +2,8 @@
 
 For every bus of a power network, its fair part (Shapley value) of what recorders at all buses
 together can see; every number comes from the proved library. :class:`Network` has the planners' own
-names for buses, and :mod:`gishwabel.calls` has a function for each call of the library.
+names for buses, :func:`load` reads one from a network file, and :mod:`gishwabel.calls` has a function
+for each call of the library.
 
 >>> import gishwabel
 >>> network = gishwabel.Network.of(["Nord", "Mitte", "Süd"], [("Nord", "Mitte"), ("Süd", "Mitte")])
@@ -36,6 +37,7 @@ from gishwabel.calls import (
     whole_sheet,
     write,
 )
+from gishwabel.labels import load
 from gishwabel.network import Network, Study
 
 __all__ = [
@@ -47,6 +49,7 @@ __all__ = [
     "Study",
     "cancel",
     "degree",
+    "load",
     "max_buses",
     "max_bytes",
     "max_entries",

@@ -67,9 +67,11 @@ def main(arguments: Optional[Sequence[str]] = None) -> int:
         return status
     except build.BuildError as why:
         return say(str(why), NOT_RUN)
-    except OSError:
+    except OSError as why:
         with contextlib.suppress(OSError):  # nothing more is written there when Python ends
             os.dup2(os.open(os.devnull, os.O_WRONLY), sys.stdout.fileno())
+        if isinstance(why, BrokenPipeError):  # a reader that goes away, as head does, has enough
+            return NOT_RUN
         return say("standard output cannot be written", NOT_RUN)
     except KeyboardInterrupt:
         return say("interrupted", NOT_RUN)
@@ -170,8 +172,8 @@ def _import(options: Namespace) -> int:
     """Makes the network file and the table of labels of each case."""
 
     def work(name: str, _: Progress) -> int:
-        path = place_for(name, options.out, ".net", options.files)
         text = read_text(name)
+        path = place_for(name, options.out, ".net", options.files)
         case = cases.parse(options.kind or cases.kind_of(name, text), text, options.names)
         if options.buses:
             try:
@@ -274,7 +276,7 @@ def _outage(options: Namespace) -> int:
         names = _names(network)
         line = _line(network, options.words[-1])
         changes, over = network.outage(line)
-        print(f"line {line} out {_ends(network, line)} over {over}")
+        print(f"line {line} out {_ends(network, names, line)} over {over}")
         for bus, change in enumerate(changes):
             print(names[bus], change)
         return DONE
@@ -298,7 +300,7 @@ def _print_all_outages(network: Network, progress: Progress) -> None:
     for moved, line, falls, fall, rises, rise in sorted(studies):
         share = decimal(Fraction(-moved, over))
         most = [names[falls], str(fall), names[rises], f"+{rise}"]
-        rows.append([str(line), _ends(network, line), str(-moved), share, *most])
+        rows.append([str(line), _ends(network, names, line), str(-moved), share, *most])
     _print_columns(rows, left={1, 4, 6})
 
 
@@ -306,8 +308,8 @@ def _picture(options: Namespace) -> int:
     """Draws each file."""
 
     def work(name: str, progress: Progress) -> int:
-        path = place_for(name, options.out, ".svg", options.files)
         network = read_network(name, _labelled(options))
+        path = place_for(name, options.out, ".svg", options.files)
         numerators, over = network.numerators()
         line = None if options.outage is None else _line(network, options.outage)
         changes = None if line is None else network.outage(line).changes
@@ -352,9 +354,8 @@ def _bus(network: Network, word: str) -> int:
         raise TextError(Fault(0, f"there is no bus {label!r}{hint}")) from None
 
 
-def _ends(network: Network, line: int) -> str:
+def _ends(network: Network, names: Sequence[str], line: int) -> str:
     """A line by the names of its ends."""
-    names = _names(network)
     return "-".join(names[bus] for bus in network.pairs[line])
 
 

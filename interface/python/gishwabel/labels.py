@@ -10,20 +10,61 @@ from __future__ import annotations
 import csv
 import hashlib
 import io
+import os
 import re
 from collections.abc import Sequence
 from pathlib import Path
+from typing import Union
 
+from gishwabel import build
+from gishwabel.network import Network
 from gishwabel.texts import Fault, TextError, clean_label, decode, read_table
 
 
-def beside(network_file: Path) -> Path:
+def with_ending(name: Union[str, Path], ending: str) -> Path:
+    """The name of a file with another ending, in place of one that says what the file is.
+
+    >>> [with_ending(name, ".net").name for name in ("north.m", "north.2026", "north")]
+    ['north.net', 'north.2026.net', 'north.net']
+    """
+    front, old = os.path.splitext(name)
+    known = old.lower() in (".m", ".csv", ".tsv", ".txt", ".net")
+    return Path(f"{front if known else name}{ending}")
+
+
+def beside(network_file: Union[str, Path]) -> Path:
     """Where the table of labels of a network file is.
 
-    >>> beside(Path("examples/ieee14.net")).name
+    >>> beside("ieee14.net").name
     'ieee14.labels'
     """
-    return network_file.with_suffix(".labels")
+    return with_ending(network_file, ".labels")
+
+
+def load(network_file: Union[str, Path]) -> Network:
+    """Reads a network file, with its labels if their table stands beside it.
+
+    >>> load(build.ROOT / "examples" / "ieee14.net").labels[:3]
+    ['1', '2', '3']
+    """
+    network = Network(Path(network_file).read_bytes())
+    if beside(network_file).exists():
+        attach(network, beside(network_file))
+    return network
+
+
+def attach(network: Network, table: Path) -> None:
+    """Labels the buses of a network by a table of labels, whose faults are told with its name.
+
+    >>> network = Network.of("AB", ["AB"])
+    >>> attach(network, build.ROOT / "examples" / "ieee14.labels")  # doctest: +ELLIPSIS
+    Traceback (most recent call last):
+    gishwabel.texts.TextError: ...ieee14.labels: line 1: the labels belong to other bytes ...
+    """
+    try:
+        network.label(parse(table.read_bytes(), network.file, network.buses))
+    except TextError as why:
+        raise TextError(*(Fault(0, f"{table}: {fault}") for fault in why.faults)) from why
 
 
 def encode(name: str, file: bytes, labels: Sequence[str]) -> bytes:

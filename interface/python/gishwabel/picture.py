@@ -19,34 +19,23 @@ from fractions import Fraction
 from typing import NamedTuple, Optional
 
 _FONT = "Helvetica, Arial, 'DejaVu Sans', sans-serif"
-_INK, _GREY, _LINE, _OUT = "#1f2933", "#52606d", "#9aa5b1", "#c4006a"
+_INK, _GREY, _LINE = "#1f2933", "#52606d", "#9aa5b1"
+_DASHED = 'stroke="#c4006a" stroke-width="3" stroke-dasharray="7 4"'
+# The shades from the smallest share to the largest.
 _SHADES = ((237, 244, 250), (158, 202, 225), (66, 146, 198), (8, 48, 107))
-"""The shades from the smallest share to the largest."""
+# The colours from the largest fall, over no change, to the largest rise.
 _COLOURS = ((166, 76, 0), (241, 163, 64), (250, 250, 250), (103, 169, 207), (20, 84, 150))
-"""The colours from the largest fall, over no change, to the largest rise."""
+# The least radius of a circle, and the radius of the largest share.
 _SMALLEST, _LARGEST = 9.5, 25.0
-"""The least radius of a circle, and the radius of the largest share."""
-_GAP = 7.0
-"""The least room between two circles."""
-_SPACING = 74.0
-"""The length that a line is meant to have."""
-_MARGIN = 28.0
-"""The room at the edges of the picture."""
+# The least room between circles, the usual length of a line, and the edge of the picture.
+_GAP, _SPACING, _MARGIN = 7.0, 74.0, 28.0
+# The size of the letters of a label beside its circle, and the places it may have, best first.
 _BESIDE = 10.0
-"""The size of the letters of a label beside its circle."""
-_SIDES = tuple(
-    (far * right, far * below)
-    for far in (1.0, 1.5)
-    for right, below in (
-        (1.0, 0.0), (-1.0, 0.0), (0.0, 1.0), (0.0, -1.0),
-        (0.8, 0.8), (0.8, -0.8), (-0.8, 0.8), (-0.8, -0.8),
-    )
-)
-"""The directions in which a label may stand beside its circle, the best first."""
+_SIDES = [(1.0, 0.0), (-1.0, 0.0), (0.0, 1.0), (0.0, -1.0)]
+_SIDES += [(0.8, 0.8), (0.8, -0.8), (-0.8, 0.8), (-0.8, -0.8)]
+_SIDES += [(1.5 * right, 1.5 * below) for right, below in _SIDES]
+# How bad it is if a label covers a circle or a label. If it covers a line, that counts 1.
 _CLASH = 100.0
-"""How bad it is if a label covers a circle or another label; covering a line counts 1."""
-_DASHED = f'stroke="{_OUT}" stroke-width="3" stroke-dasharray="7 4"'
-"""The style of the line that is out."""
 
 _Place = tuple[float, float]
 _Line = tuple[int, int]
@@ -54,25 +43,25 @@ _Colour = tuple[int, int, int]
 
 
 class _Island(NamedTuple):
-    """Buses that hang together; the lines and the neighbours are given by places in ``buses``."""
+    """Buses that hang together, and how to lay them out."""
 
     buses: list[int]
-    lines: list[_Line]
+    lines: list[_Line]  # These and the neighbours are given by places in the list of buses.
     neighbours: list[list[int]]
     radii: list[float]
-    wanted: list[list[float]]
-    """The distances that the buses should have."""
+    wanted: list[list[float]]  # The distances that the buses should have.
+    sizes: list[float]  # The step sizes of the descent to these distances.
+    passes: int  # The number of times that buses may be moved after that.
+    tries: int  # The number of layouts of which the best is taken.
 
 
 class _Surroundings(NamedTuple):
     """What a bus can come near to when it is moved."""
 
     radius: float
-    ends: list[_Place]
-    circles: list[tuple[_Place, float, float]]
-    """The places and radii of other circles, and the distances to keep from them."""
-    lines: list[tuple[_Place, _Place, list[tuple[_Place, bool]]]]
-    """The two ends of each line, and the neighbours of the bus, with their sides of the line."""
+    ends: list[_Place]  # The places of its neighbours.
+    circles: list[tuple[_Place, float, float]]  # With radii, and distances to be kept.
+    lines: list[tuple[_Place, _Place, list[tuple[_Place, bool]]]]  # With the sides of the ends.
 
 
 class _Box(NamedTuple):
@@ -85,7 +74,7 @@ class _Box(NamedTuple):
 
 
 class _Label(NamedTuple):
-    """A text, the place that it is anchored at, and the room that it takes."""
+    """A text, where it is anchored, and the room that it takes."""
 
     text: str
     size: float
@@ -93,18 +82,6 @@ class _Label(NamedTuple):
     at: _Place
     box: _Box
     inside: bool
-
-
-class _Row(NamedTuple):
-    """A row of the legend, drawn around height 0, and its size."""
-
-    parts: str
-    width: float
-    height: float
-
-
-def _silent(done: int, total: int) -> None:
-    """Tells nobody how far the layout is."""
 
 
 def draw(
@@ -116,7 +93,7 @@ def draw(
     *,
     out: Optional[int] = None,
     changes: Optional[Sequence[int]] = None,
-    progress: Callable[[int, int], None] = _silent,
+    progress: Callable[[int, int], None] = lambda done, total: None,
 ) -> str:
     """Gives the picture of a network and its shares as the text of an SVG file.
 
@@ -134,28 +111,30 @@ def draw(
         raise ValueError("give both the line that is out and the changes, or neither")
     shares = [Fraction(numerator, over) for numerator in numerators]
     moves = [Fraction(change, over) for change in changes or []]
-    low, high, most = min(shares), max(shares), max([abs(move) for move in moves], default=0)
-    radii = [_radius(share, high) for share in shares]
+    names = [_clean(name) for name in names]
     texts = [_cut(name, 32) for name in names]
+    low, high = min(shares), max(shares)
+    radii = [_radius(share, high) for share in shares]
     places, labels = _with_labels(texts, pairs, radii, _lay_out(pairs, radii, progress))
-    tips = [f"{name}: share {_both(share)}" for name, share in zip(names, shares)]
-    fills = [_shade(share, low, high) for share in shares]
-    if moves:
-        tips = [f"{tip}, change {_both(move, '+')}" for tip, move in zip(tips, moves)]
-        fills = [_colour(move, most) for move in moves]
 
+    tips = [f"{name}: share {_both(share)}" for name, share in zip(names, shares)]
+    if out is None:
+        fills = [_shade(share, low, high) for share in shares]
+        legend = _share_legend(low, high)
+    else:
+        fall, rise = min(moves), max(moves)
+        fills = [_colour(move, max(-fall, rise)) for move in moves]
+        tips = [f"{tip}, change {_both(move, '+')}" for tip, move in zip(tips, moves)]
+        ends = f"{texts[pairs[out][0]]} – {texts[pairs[out][1]]}"
+        legend = _outage_legend(low, high, fall, rise, ends)
     network = _draw_lines(pairs, places, out)
     network += [_draw_halo(label) for label in labels if not label.inside]
     for bus, tip in enumerate(tips):
         network.append(_draw_bus(tip, places[bus], radii[bus], fills[bus], labels[bus]))
-    if out is None:
-        legend = _share_legend(low, high)
-    else:
-        ends = f"{texts[pairs[out][0]]} – {texts[pairs[out][1]]}"
-        legend = _outage_legend(low, high, min(moves), max(moves), ends)
-    heading = f"{_count(len(names), 'bus', 'buses')}, {_count(len(pairs), 'line', 'lines')}"
-    heading += f"; all shares add up to {sum(shares)}"
-    return _sheet(title, heading, network, _bounds(places, radii, labels), legend)
+    heading = f"{len(names)} {'bus' if len(names) == 1 else 'buses'}, "
+    heading += f"{len(pairs)} {'line' if len(pairs) == 1 else 'lines'}; "
+    heading += f"all shares add up to {sum(shares)}"
+    return _sheet(_clean(title), heading, network, _bounds(places, radii, labels), legend)
 
 
 # The layout of the buses.
@@ -170,11 +149,22 @@ def _lay_out(
     pairs: Sequence[_Line], radii: Sequence[float], progress: Callable[[int, int], None]
 ) -> list[_Place]:
     """Places all buses, island by island."""
-    islands, single = _islands(pairs, radii)
-    total = 1
+    neighbours: list[list[int]] = [[] for _ in radii]
+    for low, high in pairs:
+        neighbours[low].append(high)
+        neighbours[high].append(low)
+    single = [bus for bus, near in enumerate(neighbours) if not near]
+    seen = list(single)
+    islands = []
+    for start in range(len(radii)):
+        if start not in seen:
+            buses = [bus for bus, steps in enumerate(_walk(start, neighbours)) if steps >= 0]
+            islands.append(_island(buses, pairs, neighbours, radii))
+            seen += buses
+    islands.sort(key=lambda island: -len(island.buses))
+    done, total = 0, 1
     for island in islands:
-        total += _tries(island) * (len(_step_sizes(island)) + _passes(island))
-    done = 0
+        total += island.tries * (len(island.sizes) + island.passes)
 
     def tick() -> None:
         nonlocal done
@@ -183,39 +173,12 @@ def _lay_out(
 
     blocks = [(island.buses, _lay_out_island(island, tick)) for island in islands]
     if single:
-        blocks.append((single, _rows(len(single))))
+        cell, columns = 2.0 * _LARGEST + _GAP, max(12, math.isqrt(3 * len(single)))
+        rows = [(cell * (k % columns), cell * (k // columns)) for k in range(len(single))]
+        blocks.append((single, rows))
     places = _pack(blocks, radii)
     tick()
     return places
-
-
-def _islands(
-    pairs: Sequence[_Line], radii: Sequence[float]
-) -> tuple[list[_Island], list[int]]:
-    """The islands of the network, the largest first, and the buses without lines."""
-    neighbours: list[list[int]] = [[] for _ in radii]
-    for low, high in pairs:
-        neighbours[low].append(high)
-        neighbours[high].append(low)
-    islands = []
-    seen = [not near for near in neighbours]
-    for start in range(len(radii)):
-        if not seen[start]:
-            buses = [bus for bus, far in enumerate(_walk(start, neighbours)) if far >= 0]
-            index = {bus: k for k, bus in enumerate(buses)}
-            lines = [(index[low], index[high]) for low, high in pairs if low in index]
-            near = [[index[other] for other in neighbours[bus]] for bus in buses]
-            wanted = _distances(near, _dense(len(buses), len(lines)))
-            islands.append(_Island(buses, lines, near, [radii[bus] for bus in buses], wanted))
-            for bus in buses:
-                seen[bus] = True
-    islands.sort(key=lambda island: -len(island.buses))
-    return islands, [bus for bus, near in enumerate(neighbours) if not near]
-
-
-def _dense(buses: int, lines: int) -> bool:
-    """Whether an island is so dense that its buses best stand in a circle."""
-    return buses > 4 and 4 * lines > buses * (buses - 1)
 
 
 def _walk(start: int, neighbours: Sequence[Sequence[int]]) -> list[int]:
@@ -231,52 +194,64 @@ def _walk(start: int, neighbours: Sequence[Sequence[int]]) -> list[int]:
     return steps
 
 
-def _distances(neighbours: list[list[int]], dense: bool) -> list[list[float]]:
-    """The distances that the buses should have, by the ways between them along lines."""
-    count = len(neighbours)
-    if dense:
-        neighbours = [[(bus + 1) % count, (bus - 1) % count] for bus in range(count)]
-    meshed = 2 * sum(len(near) for near in neighbours) > 5 * count
+def _island(
+    buses: list[int],
+    pairs: Sequence[_Line],
+    neighbours: Sequence[Sequence[int]],
+    radii: Sequence[float],
+) -> _Island:
+    """Plans the layout of an island: a circle, a star, or what comes out of the ways."""
+    count = len(buses)
+    index = {bus: k for k, bus in enumerate(buses)}
+    lines = [(index[low], index[high]) for low, high in pairs if low in index]
+    near = [[index[other] for other in neighbours[bus]] for bus in buses]
+    degrees = [len(ends) for ends in near]
+    passes = 30 if count <= 200 else 12
+    if count > 4 and len(lines) == max(degrees):
+        wanted, passes = _circle(count, degrees.index(count - 1)), 0
+    elif count > 4 and 4 * len(lines) > count * (count - 1):
+        wanted, passes = _circle(count, -1), 0
+    else:
+        wanted = _distances(near, 4 * len(lines) > 5 * count)
+    farthest = max(max(row) for row in wanted)
+    if len(lines) > 3 * count or (count > 60 and count > 6.0 * farthest * farthest):
+        passes = 0
+    sizes = [farthest * farthest]
+    while sizes[-1] > 0.05:
+        sizes.append(sizes[-1] * (0.8 if count <= 200 else 0.7))
+    tries = 4 if count <= 60 else 2 if count <= 130 else 1
+    return _Island(buses, lines, near, [radii[k] for k in buses], wanted, sizes, passes, tries)
+
+
+def _distances(neighbours: Sequence[Sequence[int]], meshed: bool) -> list[list[float]]:
+    """The distances by the ways along lines; in a mesh, they grow less than the ways."""
     wanted = []
-    for bus in range(count):
+    for bus in range(len(neighbours)):
         ways = [float(steps) for steps in _walk(bus, neighbours)]
         wanted.append([math.sqrt(way * math.sqrt(way)) for way in ways] if meshed else ways)
     return wanted
 
 
-def _tries(island: _Island) -> int:
-    """The number of layouts of which the best is taken."""
-    return 4 if len(island.buses) <= 60 else 2 if len(island.buses) <= 130 else 1
-
-
-def _passes(island: _Island) -> int:
-    """The number of times that every bus may be moved; none if the lines are too tangled."""
-    count, lines = len(island.buses), len(island.lines)
-    farthest = max(island.wanted[0])
-    crowded = count > 60 and count > 6.0 * farthest * farthest
-    if lines > 3 * count or crowded or _dense(count, lines):
-        return 0
-    return 32 if count <= 200 else 12
-
-
-def _step_sizes(island: _Island) -> list[float]:
-    """The falling step sizes of the descent."""
-    farthest = max(max(row) for row in island.wanted)
-    sizes = [farthest * farthest]
-    while sizes[-1] > 0.05:
-        sizes.append(sizes[-1] * (0.8 if len(island.buses) <= 200 else 0.7))
-    return sizes
+def _circle(count: int, hub: int) -> list[list[float]]:
+    """The distances of buses in a circle, or around one of them if that is not -1."""
+    ring = [bus for bus in range(count) if bus != hub]
+    unit = 1.0 if hub < 0 else max(0.6, 6.28 / len(ring))
+    wanted = [[unit * len(ring) / 6.28] * count for _ in range(count)]
+    for k, a in enumerate(ring):
+        for other, b in enumerate(ring):
+            wanted[a][b] = unit * min(abs(k - other), len(ring) - abs(k - other))
+    return wanted
 
 
 def _lay_out_island(island: _Island, tick: Callable[[], None]) -> list[_Place]:
     """Takes, out of a few layouts, the one with the fewest crossings."""
     best: list[_Place] = []
     fewest = 0
-    for seed in range(_tries(island)):
+    for seed in range(island.tries):
         rng = random.Random(seed)
         places = _stretch(_descend(island, rng, tick), island)
         _untangle(island, places, rng, tick)
-        crossings = _crossings(island.lines, places) if _tries(island) > 1 else 0
+        crossings = _crossings(island.lines, places) if island.tries > 1 else 0
         if not best or crossings < fewest:
             best, fewest = places, crossings
     return _turn(_push_apart(best, island.radii))
@@ -286,8 +261,10 @@ def _descend(island: _Island, rng: random.Random, tick: Callable[[], None]) -> l
     """Gives the buses about the distances that they should have (Zheng and others, 2018)."""
     x = [rng.random() for _ in island.buses]
     y = [rng.random() for _ in island.buses]
-    terms = [(i, j, wanted) for i, row in enumerate(island.wanted) for j, wanted in enumerate(row[:i])]
-    for size in _step_sizes(island):
+    terms = []
+    for i, row in enumerate(island.wanted):
+        terms += [(i, j, row[j]) for j in range(i)]
+    for size in island.sizes:
         for last in range(len(terms) - 1, 0, -1):
             other = int(rng.random() * (last + 1))
             terms[last], terms[other] = terms[other], terms[last]
@@ -308,12 +285,11 @@ def _descend(island: _Island, rng: random.Random, tick: Callable[[], None]) -> l
 
 def _stretch(places: list[_Place], island: _Island) -> list[_Place]:
     """Enlarges a layout so that the lines are long enough and the circles have room."""
-    width = max(x for x, _ in places) - min(x for x, _ in places)
-    height = max(y for _, y in places) - min(y for _, y in places)
+    left, top, right, bottom = _bounds(places, [0.25] * len(places), [])
     room = 0.0
     for radius in island.radii:
         room += (2.0 * radius + _GAP) * (2.0 * radius + _GAP)
-    scale = max(_SPACING, math.sqrt(2.0 * room / ((width + 0.5) * (height + 0.5))))
+    scale = max(_SPACING, math.sqrt(2.0 * room / ((right - left) * (bottom - top))))
     for bus, near in enumerate(island.neighbours):
         around = reach = 0.0
         for other in near:
@@ -327,16 +303,15 @@ def _untangle(
     island: _Island, places: list[_Place], rng: random.Random, tick: Callable[[], None]
 ) -> None:
     """Moves single buses to where they cause less trouble, and at first sometimes a bit more."""
-    passes = _passes(island)
-    for k in range(passes):
-        patience = 2.0 - 2.0 * (k + 1) / passes
+    for k in range(island.passes):
+        patience = 2.0 - 2.0 * (k + 1) / island.passes
         for bus, ends in enumerate(island.neighbours):
             around = _surroundings(bus, island, places)
             now = _trouble(places[bus], around, math.inf)
             if now < 0.5:
                 continue
             middle = _middle([places[end] for end in ends])
-            for near, reach in ((middle, 1.2), (places[bus], 0.6), (middle, 2.2)):
+            for near, reach in ((middle, 1.5), (places[bus], 0.8), (middle, 1.5)):
                 x = near[0] + (2.0 * rng.random() - 1.0) * reach * _SPACING
                 y = near[1] + (2.0 * rng.random() - 1.0) * reach * _SPACING
                 limit = now + patience * rng.random()
@@ -346,31 +321,23 @@ def _untangle(
         tick()
 
 
-def _middle(places: Sequence[_Place]) -> _Place:
-    """The centre of gravity of some places."""
-    x = y = 0.0
-    for place in places:
-        x += place[0]
-        y += place[1]
-    return x / len(places), y / len(places)
-
-
 def _surroundings(bus: int, island: _Island, places: Sequence[_Place]) -> _Surroundings:
     """The buses and lines near the places that a bus may be moved to."""
     ends = [places[end] for end in island.neighbours[bus]]
     corners = ends + [places[bus]]
-    box = _bounds(corners, [2.2 * _SPACING + _LARGEST] * len(corners), [])
+    box = _bounds(corners, [1.5 * _SPACING + _LARGEST] * len(corners), [])
     buses, near = _within(box, places, island.lines)
-    buses.remove(bus)
+    circles = []
+    for other in buses:
+        if other != bus:
+            need = island.radii[bus] + island.radii[other] + 2.0 * _GAP
+            need += 2.0 * _GAP if places[other] in ends else 0.0
+            circles.append((places[other], island.radii[other], need))
     lines = []
     for low, high in near:
         if bus not in (low, high):
             a, b = places[low], places[high]
             lines.append((a, b, [(end, _left(a, b, end)) for end in ends if end not in (a, b)]))
-    circles = []
-    for other in buses:
-        room = 4.0 * _GAP if places[other] in ends else 2.0 * _GAP
-        circles.append((places[other], island.radii[other], island.radii[bus] + island.radii[other] + room))
     return _Surroundings(island.radii[bus], ends, circles, lines)
 
 
@@ -415,17 +382,10 @@ def _trouble(at: _Place, around: _Surroundings, limit: float) -> float:
     return trouble
 
 
-def _far(a: _Place, b: _Place) -> float:
-    """The distance of two places."""
-    return math.sqrt((a[0] - b[0]) * (a[0] - b[0]) + (a[1] - b[1]) * (a[1] - b[1]))
-
-
 def _on_line(at: _Place, radius: float, a: _Place, b: _Place) -> float:
     """How bad the place of a circle is for a line that does not end in it."""
     need = radius + _GAP
-    x, y = at
-    ax, ay = a
-    bx, by = b
+    (x, y), (ax, ay), (bx, by) = at, a, b
     if (x > ax + need and x > bx + need) or (x < ax - need and x < bx - need):
         return 0.0
     if (y > ay + need and y > by + need) or (y < ay - need and y < by - need):
@@ -436,14 +396,19 @@ def _on_line(at: _Place, radius: float, a: _Place, b: _Place) -> float:
     return 1.5 * max(0.0, 1.0 - _far(at, (ax + part * across, ay + part * down)) / need)
 
 
-def _crosses(a: _Place, b: _Place, p: _Place, q: _Place) -> bool:
-    """Whether the line from a to b crosses the line from p to q."""
-    return _left(a, b, p) != _left(a, b, q) and _left(p, q, a) != _left(p, q, b)
+def _far(a: _Place, b: _Place) -> float:
+    """The distance of two places."""
+    return math.sqrt((a[0] - b[0]) * (a[0] - b[0]) + (a[1] - b[1]) * (a[1] - b[1]))
 
 
 def _left(a: _Place, b: _Place, p: _Place) -> bool:
-    """Whether p is to the left of the way from a to b."""
+    """Whether p is on a certain one of the two sides of the line from a to b."""
     return (b[0] - a[0]) * (p[1] - a[1]) > (b[1] - a[1]) * (p[0] - a[0])
+
+
+def _crosses(a: _Place, b: _Place, p: _Place, q: _Place) -> bool:
+    """Whether the line from a to b crosses the line from p to q."""
+    return _left(a, b, p) != _left(a, b, q) and _left(p, q, a) != _left(p, q, b)
 
 
 def _crossings(lines: Sequence[_Line], places: Sequence[_Place]) -> int:
@@ -458,8 +423,7 @@ def _crossings(lines: Sequence[_Line], places: Sequence[_Place]) -> int:
 
 def _push_apart(places: list[_Place], radii: Sequence[float]) -> list[_Place]:
     """Moves circles away from each other until all have room."""
-    tight = True
-    while tight:
+    for _ in range(500):
         tight = False
         for i in range(len(places)):
             for j in range(i):
@@ -470,42 +434,37 @@ def _push_apart(places: list[_Place], radii: Sequence[float]) -> list[_Place]:
                     if far < need:
                         tight = True
                         part = 0.5 * (need + 0.1 - far) / far
-                        across, down = part * (ax - bx), part * (ay - by)
-                        places[i] = ax + across, ay + down
-                        places[j] = bx - across, by - down
-        if tight:
-            places = [(1.005 * x, 1.005 * y) for x, y in places]
+                        places[i] = ax + part * (ax - bx), ay + part * (ay - by)
+                        places[j] = bx - part * (ax - bx), by - part * (ay - by)
+        if not tight:
+            break
+        places = [(1.005 * x, 1.005 * y) for x, y in places]
     return places
+
+
+def _middle(places: Sequence[_Place]) -> _Place:
+    """The centre of gravity of some places."""
+    x = y = 0.0
+    for place in places:
+        x += place[0]
+        y += place[1]
+    return x / len(places), y / len(places)
 
 
 def _turn(places: list[_Place]) -> list[_Place]:
     """Turns a layout so that it is wide and its first bus is in the upper left."""
-    x, y = _middle(places)
-    xx = xy = yy = 0.0
-    for place in places:
-        xx += (place[0] - x) * (place[0] - x)
-        xy += (place[0] - x) * (place[1] - y)
-        yy += (place[1] - y) * (place[1] - y)
-    half = 0.5 * (xx - yy)
-    across, down = half + math.sqrt(half * half + xy * xy), xy
-    if across <= 1e-6 * (xx + yy):
-        across, down = (0.0, 1.0) if yy > xx else (1.0, 0.0)
-    size = math.sqrt(across * across + down * down)
-    turned = []
-    for place in places:
-        right, below = place[0] - x, place[1] - y
-        turned.append(
-            ((right * across + below * down) / size, (below * across - right * down) / size)
-        )
-    flip, lift = (-1.0 if turned[0][0] > 0.0 else 1.0), (-1.0 if turned[0][1] > 0.0 else 1.0)
-    return [(flip * right, lift * below) for right, below in turned]
-
-
-def _rows(count: int) -> list[_Place]:
-    """Places for buses without lines, in rows."""
-    cell = 2.0 * _LARGEST + _GAP
-    columns = max(12, math.isqrt(3 * count))
-    return [(cell * (k % columns), cell * (k // columns)) for k in range(count)]
+    centre = _middle(places)
+    centred = [(x - centre[0], y - centre[1]) for x, y in places]
+    half = mixed = 0.0
+    for x, y in centred:
+        half += 0.5 * (x * x - y * y)
+        mixed += x * y
+    across = half + math.sqrt(half * half + mixed * mixed) + 1e-9
+    size = math.sqrt(across * across + mixed * mixed)
+    c, s = across / size, mixed / size
+    turned = [(c * x + s * y, c * y - s * x) for x, y in centred]
+    flip, lift = (-1.0 if part > 0.0 else 1.0 for part in turned[0])
+    return [(flip * x, lift * y) for x, y in turned]
 
 
 def _pack(
@@ -514,42 +473,39 @@ def _pack(
     """Puts the islands side by side in rows."""
     boxes = [_bounds(places, [radii[bus] for bus in buses], []) for buses, places in blocks]
     area = widest = 0.0
-    for box in boxes:
-        area += (box.right - box.left + _SPACING) * (box.bottom - box.top + _SPACING)
-        widest = max(widest, box.right - box.left)
+    for left, top, right, bottom in boxes:
+        area += (right - left + _SPACING) * (bottom - top + _SPACING)
+        widest = max(widest, right - left)
     result = [(0.0, 0.0)] * len(radii)
     x = y = height = 0.0
-    for (buses, places), box in zip(blocks, boxes):
-        if x > 0.0 and x + box.right - box.left > max(widest, math.sqrt(1.6 * area)):
+    for (buses, places), (left, top, right, bottom) in zip(blocks, boxes):
+        if x > 0.0 and x + right - left > max(widest, math.sqrt(1.6 * area)):
             x, y, height = 0.0, y + height, 0.0
         for bus, place in zip(buses, places):
-            result[bus] = place[0] - box.left + x, place[1] - box.top + y
-        x += box.right - box.left + 0.6 * _SPACING
-        height = max(height, box.bottom - box.top + 0.6 * _SPACING)
+            result[bus] = place[0] - left + x, place[1] - top + y
+        x += right - left + 0.6 * _SPACING
+        height = max(height, bottom - top + 0.6 * _SPACING)
     return result
 
 
-def _bounds(
-    places: Sequence[_Place], radii: Sequence[float], labels: Sequence[_Label]
-) -> _Box:
+def _bounds(places: Sequence[_Place], radii: Sequence[float], labels: Sequence[_Label]) -> _Box:
     """The box around circles and labels."""
     boxes = [label.box for label in labels]
-    for (x, y), radius in zip(places, radii):
-        boxes.append(_Box(x - radius, y - radius, x + radius, y + radius))
-    return _Box(
-        min(box.left for box in boxes),
-        min(box.top for box in boxes),
-        max(box.right for box in boxes),
-        max(box.bottom for box in boxes),
-    )
+    boxes += [_Box(x - r, y - r, x + r, y + r) for (x, y), r in zip(places, radii)]
+    left, top = min(box.left for box in boxes), min(box.top for box in boxes)
+    return _Box(left, top, max(box.right for box in boxes), max(box.bottom for box in boxes))
 
 
 # The labels.
 
 
+def _clean(text: str) -> str:
+    """A text without control characters and what XML forbids."""
+    return re.sub("[\x00-\x1f\x7f-\x9f\ud800-\udfff\ufffe\uffff]", "\ufffd", text)
+
+
 def _cut(text: str, longest: int) -> str:
-    """A text without what XML forbids, and with an ellipsis if it is too long."""
-    text = re.sub("[\x00-\x1f\x7f-\x9f\ud800-\udfff\ufffe\uffff]", "\ufffd", text)
+    """A text, cut and with an ellipsis if it is too long."""
     return text if len(text) <= longest else text[: longest - 1].rstrip() + "…"
 
 
@@ -570,84 +526,76 @@ def _with_labels(
     texts: Sequence[str], pairs: Sequence[_Line], radii: Sequence[float], places: list[_Place]
 ) -> tuple[list[_Place], list[_Label]]:
     """Places the labels, and draws the buses apart as far as the labels need it."""
-    labels, clash = _place_labels(texts, pairs, radii, places)
-    for _ in range(6):
-        if clash:
-            places = [(1.25 * x, 1.25 * y) for x, y in places]
-            labels, clash = _place_labels(texts, pairs, radii, places)
+    labels, cost = _place_labels(texts, pairs, radii, places)
+    for step in range(6):
+        if cost > (0.3 * len(texts) if step < 3 else 0.9 * _CLASH):
+            places = [(1.2 * x, 1.2 * y) for x, y in places]
+            labels, cost = _place_labels(texts, pairs, radii, places)
     return places, labels
 
 
 def _place_labels(
     texts: Sequence[str], pairs: Sequence[_Line], radii: Sequence[float], places: Sequence[_Place]
-) -> tuple[list[_Label], bool]:
-    """Chooses a place for every label, and says whether one covers a circle or a label."""
+) -> tuple[list[_Label], float]:
+    """Chooses a place for every label, and adds up what is bad about the places."""
     labels = [_inside(text, at, radius) for text, at, radius in zip(texts, places, radii)]
     outer = [bus for bus, label in enumerate(labels) if not label.inside]
     choices = {bus: _choices(bus, texts[bus], pairs, radii, places) for bus in outer}
     rivals = {bus: _rivals(bus, outer, labels) for bus in outer}
-    worst = 0.0
+    total = 0.0
     for _ in range(3):
-        worst = 0.0
+        total = 0.0
         for bus in outer:
             taken = [labels[other].box for other in rivals[bus]]
-            cost, labels[bus] = min(
-                ((cost + _clashes(label.box, taken), label) for cost, label in choices[bus]),
-                key=lambda choice: choice[0],
-            )
-            worst = max(worst, cost)
-    return labels, worst >= _CLASH
+            costs = [cost + _clashes(label.box, taken) for cost, label in choices[bus]]
+            best = costs.index(min(costs))
+            labels[bus] = choices[bus][best][1]
+            total += costs[best]
+    return labels, total
 
 
 def _inside(text: str, at: _Place, radius: float) -> _Label:
-    """The label inside the circle, if it fits there."""
+    """The label inside the circle if it fits there, and otherwise to its right."""
     for size in (13.0, 12.0, 11.0, 10.0, 9.0):
         if _far((0.0, 0.0), (0.5 * _width(text, size), 0.36 * size)) < radius - 0.8:
-            return _Label(text, size, "middle", at, _Box(at[0], at[1], at[0], at[1]), True)
+            return _Label(text, size, "middle", at, _Box(*at, *at), True)
     return _beside(text, at, radius, 1.0, 0.0)
 
 
 def _beside(text: str, at: _Place, radius: float, right: float, below: float) -> _Label:
-    """The label beside the circle in a direction, which may be longer than 1."""
+    """The label beside the circle, in a direction."""
     width, height = _width(text, _BESIDE), 1.2 * _BESIDE
     x = at[0] + right * (radius + 3.0)
     y = at[1] + below * (radius + 1.0 + 0.5 * height)
-    anchor, left = ("middle", x - 0.5 * width)
+    anchor, left = "middle", x - 0.5 * width
     if right > 0.0:
-        anchor, left = ("start", x)
+        anchor, left = "start", x
     elif right < 0.0:
-        anchor, left = ("end", x - width)
+        anchor, left = "end", x - width
     box = _Box(left, y - 0.5 * height, left + width, y + 0.5 * height)
     return _Label(text, _BESIDE, anchor, (x, y), box, False)
 
 
 def _choices(
-    bus: int,
-    text: str,
-    pairs: Sequence[_Line],
-    radii: Sequence[float],
-    places: Sequence[_Place],
+    bus: int, text: str, pairs: Sequence[_Line], radii: Sequence[float], places: Sequence[_Place]
 ) -> list[tuple[float, _Label]]:
-    """The places beside its circle that a label can have, with what is bad about them."""
-    x, y = places[bus]
-    reach = radii[bus] + 20.0 + _width(text, _BESIDE)
-    near, lines = _within(_Box(x - reach, y - reach, x + reach, y + reach), places, pairs)
+    """The places that a label can have beside its circle, and what is bad about them."""
+    reach = 2.0 * radii[bus] + 20.0 + _LARGEST + _width(text, _BESIDE)
+    near, lines = _within(_bounds([places[bus]], [reach], []), places, pairs)
     choices = []
     for rank, (right, below) in enumerate(_SIDES):
         label = _beside(text, places[bus], radii[bus], right, below)
         left, top, end, bottom = label.box
         cost = 0.05 * rank
         for other in near:
-            ox, oy = places[other]
-            nearest = min(max(ox, left), end), min(max(oy, top), bottom)
-            if other != bus and _far((ox, oy), nearest) < radii[other] + 2.0:
+            x, y = places[other]
+            nearest = min(max(x, left), end), min(max(y, top), bottom)
+            if other != bus and _far((x, y), nearest) < radii[other] + 4.0:
                 cost += _CLASH
         for low, high in lines:
             a, b = places[low], places[high]
-            if _crosses(a, b, (left, top), (end, bottom)):
-                cost += 1.0
-            elif _crosses(a, b, (left, bottom), (end, top)):
-                cost += 1.0
+            falls, rises = ((left, top), (end, bottom)), ((left, bottom), (end, top))
+            cost += _crosses(a, b, *falls) or _crosses(a, b, *rises)
         choices.append((cost, label))
     return choices
 
@@ -655,12 +603,11 @@ def _choices(
 def _rivals(bus: int, outer: Sequence[int], labels: Sequence[_Label]) -> list[int]:
     """The buses whose labels may come to stand where the label of a bus stands."""
     x, y = labels[bus].at
-    wide = labels[bus].box.right - x + 4.0 * _LARGEST
     rivals = []
     for other in outer:
         right, below = labels[other].at
-        room = wide + labels[other].box.right - right
-        if other != bus and abs(right - x) < room and abs(below - y) < 4.0 * _LARGEST + 20.0:
+        room = labels[bus].box.right - x + labels[other].box.right - right + 4.0 * _LARGEST
+        if other != bus and abs(right - x) < room and abs(below - y) < 5.0 * _LARGEST:
             rivals.append(other)
     return rivals
 
@@ -668,9 +615,9 @@ def _rivals(bus: int, outer: Sequence[int], labels: Sequence[_Label]) -> list[in
 def _clashes(box: _Box, taken: Sequence[_Box]) -> float:
     """What is bad about a box that covers others."""
     cost = 0.0
-    for other in taken:
-        if box.left < other.right + 2.0 and other.left < box.right + 2.0:
-            if box.top < other.bottom and other.top < box.bottom:
+    for left, top, right, bottom in taken:
+        if box.left < right + 4.0 and left < box.right + 4.0:
+            if box.top < bottom + 1.0 and top < box.bottom + 1.0:
                 cost += _CLASH
     return cost
 
@@ -692,7 +639,7 @@ def _shade(share: Fraction, low: Fraction, high: Fraction) -> _Colour:
 
 
 def _colour(change: Fraction, most: Fraction) -> _Colour:
-    """The colour of a change that is at most as large as another one."""
+    """The colour of a change, where the largest one is known."""
     return _blend(_COLOURS, float(change / most + 1) / 2.0 if most else 0.5)
 
 
@@ -708,135 +655,127 @@ def _both(value: Fraction, plus: str = "") -> str:
     return f"{plus if value > 0 else ''}{value} = {_decimal(value, plus)}"
 
 
-def _count(number: int, one: str, many: str) -> str:
-    """A number and what it counts."""
-    return f"{number} {one if number == 1 else many}"
-
-
 def _write(text: str, at: _Place, size: float, style: str) -> str:
     """A text whose letters have their middle at the height of a place."""
-    x, y = at[0], at[1] + 0.36 * size
-    return (
-        f'<text x="{x:.1f}" y="{y:.1f}" font-size="{size:.0f}" {style}>'
-        f"{html.escape(text)}</text>"
-    )
+    where = f'x="{at[0]:.1f}" y="{at[1] + 0.36 * size:.1f}" font-size="{size:.0f}"'
+    return f"<text {where} {style}>{html.escape(text)}</text>"
 
 
 def _draw_circle(at: _Place, radius: float, fill: _Colour) -> str:
     """The circle of a bus."""
-    red, green, blue = fill
-    return (
-        f'<circle cx="{at[0]:.1f}" cy="{at[1]:.1f}" r="{radius:.1f}" '
-        f'fill="#{red:02x}{green:02x}{blue:02x}" stroke="{_GREY}"/>'
-    )
+    colour = "".join(f"{part:02x}" for part in fill)
+    where = f'cx="{at[0]:.1f}" cy="{at[1]:.1f}" r="{radius:.1f}"'
+    return f'<circle {where} fill="#{colour}" stroke="{_GREY}"/>'
 
 
 def _draw_line(a: _Place, b: _Place, style: str) -> str:
     """A line between two places."""
-    return f'<path d="M{a[0]:.1f} {a[1]:.1f}L{b[0]:.1f} {b[1]:.1f}" {style}/>'
+    return f'<path d="M{a[0]:.1f} {a[1]:.1f}L{b[0]:.1f} {b[1]:.1f}"{style}/>'
 
 
-def _draw_lines(
-    pairs: Sequence[_Line], places: Sequence[_Place], out: Optional[int]
-) -> list[str]:
-    """All lines of the network, the one that is out on top."""
+def _draw_lines(pairs: Sequence[_Line], places: Sequence[_Place], out: Optional[int]) -> list[str]:
+    """All lines of the network, and on top of them the one that is out."""
     width = 1.3 if len(pairs) <= 3 * len(places) else 0.5
-    parts = [f'<g stroke="{_LINE}" stroke-width="{width}">']
-    for k, (low, high) in enumerate(pairs):
-        if k != out:
-            parts.append(_draw_line(places[low], places[high], ""))
-    parts.append("</g>")
+    paths = [_draw_line(places[low], places[high], "") for low, high in pairs]
+    last = []
     if out is not None:
         low, high = pairs[out]
-        parts.append(_draw_line(places[low], places[high], _DASHED))
-    return parts
+        paths.pop(out)
+        last.append(_draw_line(places[low], places[high], " " + _DASHED))
+    return [f'<g stroke="{_LINE}" stroke-width="{width}">', *paths, "</g>", *last]
 
 
 def _draw_halo(label: _Label) -> str:
     """The white ground of a label, which covers lines but no circle."""
-    style = f'text-anchor="{label.anchor}" fill="#fff" stroke="#fff" stroke-width="3.5"'
+    style = f'text-anchor="{label.anchor}" fill="#ffffff" stroke="#ffffff" stroke-width="3.5"'
     return _write(label.text, label.at, label.size, style + ' stroke-linejoin="round"')
 
 
 def _draw_bus(tip: str, at: _Place, radius: float, fill: _Colour, label: _Label) -> str:
-    """A bus with its tooltip and label."""
+    """A bus with its tooltip and its label, in white if it stands on something dark."""
     red, green, blue = fill
     dark = 213 * red * red + 715 * green * green + 72 * blue * blue < 250 * 255 * 255
-    ink = "#ffffff" if dark and label.inside else _INK
-    return (
-        f'<g class="bus"><title>{html.escape(_cut(tip, len(tip)))}</title>'
-        f"{_draw_circle(at, radius, fill)}"
-        + _write(label.text, label.at, label.size, f'text-anchor="{label.anchor}" fill="{ink}"')
-        + "</g>"
-    )
+    style = f'text-anchor="{label.anchor}" fill="{"#ffffff" if dark and label.inside else _INK}"'
+    text = _write(label.text, label.at, label.size, style)
+    title = f"<title>{html.escape(tip)}</title>"
+    return f'<g class="bus">{title}{_draw_circle(at, radius, fill)}{text}</g>'
 
 
-def _row(caption: str, samples: Sequence[tuple[float, _Colour, str]]) -> _Row:
-    """A row of the legend with circles and what they stand for."""
-    parts = [_write(caption, (0.0, 0.0), 12.0, f'fill="{_GREY}"')]
-    x = _width(caption, 12.0) + 10.0
+def _row(
+    start: str, x: float, samples: Sequence[tuple[float, _Colour, str]]
+) -> tuple[str, float, float]:
+    """A row of the legend, after what is drawn up to x, and its width and height."""
+    parts, height = [start], 12.0
     for radius, fill, text in samples:
         parts.append(_draw_circle((x + radius, 0.0), radius, fill))
-        x += 2.0 * radius + 6.0
-        parts.append(_write(text, (x, 0.0), 12.0, f'fill="{_INK}"'))
-        x += _width(text, 12.0) + 18.0
-    return _Row("".join(parts), x, max([2.0 * sample[0] for sample in samples], default=12.0))
+        parts.append(_write(text, (x + 2.0 * radius + 6.0, 0.0), 12.0, f'fill="{_INK}"'))
+        x += 2.0 * radius + _width(text, 12.0) + 24.0
+        height = max(height, 2.0 * radius)
+    return "".join(parts), x, height
 
 
-def _share_legend(low: Fraction, high: Fraction) -> list[_Row]:
+def _caption(text: str, x: float = 0.0) -> tuple[str, float]:
+    """A text of the legend, and where it ends."""
+    return _write(text, (x, 0.0), 12.0, f'fill="{_GREY}"'), x + _width(text, 12.0) + 10.0
+
+
+def _share_legend(low: Fraction, high: Fraction) -> list[tuple[str, float, float]]:
     """The legend of shares."""
     samples = []
     for share in sorted({low, (low + high) / 2, high}):
         samples.append((_radius(share, high), _shade(share, low, high), _decimal(share)))
-    return [_row("Share of a bus (area and shade):", samples)]
+    return [_row(*_caption("Share of a bus (area and shade):"), samples)]
 
 
 def _outage_legend(
     low: Fraction, high: Fraction, fall: Fraction, rise: Fraction, ends: str
-) -> list[_Row]:
+) -> list[tuple[str, float, float]]:
     """The legend of an outage."""
     samples = []
-    for change in (fall, Fraction(0), rise):
-        colour = _colour(change, max(-fall, rise))
-        samples.append((12.0, colour, _decimal(change, "+") if change else "0"))
-    dashes = _draw_line((0.0, 0.0), (44.0, 0.0), _DASHED)
-    text = f"line that is out: {ends}"
+    for change in sorted({fall, Fraction(0), rise}):
+        text = _decimal(change, "+") if change else "0"
+        samples.append((12.0, _colour(change, max(-fall, rise)), text))
+    text, x = _caption(f"Line that is out: {ends}", 54.0)
     return [
-        _row("Change of the share (colour):", samples),
-        _row(f"Share before the outage (area): from {_decimal(low)} to {_decimal(high)}", []),
-        _Row(dashes + _write(text, (54.0, 0.0), 12.0, f'fill="{_INK}"'),
-             54.0 + _width(text, 12.0), 12.0),
+        _row(*_caption("Change of the share (colour):"), samples),
+        _row(*_caption(f"Share before (area): from {_decimal(low)} to {_decimal(high)}"), []),
+        _row(_draw_line((0.0, 0.0), (44.0, 0.0), " " + _DASHED) + text, x, []),
     ]
 
 
 def _sheet(
-    title: str, heading: str, network: Sequence[str], box: _Box, legend: Sequence[_Row]
+    title: str,
+    heading: str,
+    network: Sequence[str],
+    box: _Box,
+    legend: Sequence[tuple[str, float, float]],
 ) -> str:
     """The whole picture: the title and heading, the network, and the legend below it."""
     shown = _cut(title, 90)
-    wide = max(_width(shown, 20.0), _width(heading, 13.0), box.right - box.left)
-    for row in legend:
-        wide = max(wide, row.width)
-    across = _MARGIN + 0.5 * (wide - box.right + box.left) - box.left
+    wide = max(_width(shown, 22.0), _width(heading, 13.0), box.right - box.left)
+    wide = max(wide, max(width for _, width, _ in legend))
+    x = _MARGIN + 0.5 * (wide - box.right - box.left)
+    y = _MARGIN + 64.0
     parts = [
         _write(shown, (_MARGIN, _MARGIN + 8.0), 20.0, f'font-weight="bold" fill="{_INK}"'),
         _write(heading, (_MARGIN, _MARGIN + 33.0), 13.0, f'fill="{_GREY}"'),
-        f'<g transform="translate({across:.1f} {_MARGIN + 64.0 - box.top:.1f})">',
+        f'<g transform="translate({x:.1f} {y - box.top:.1f})">',
         *network,
         "</g>",
     ]
-    y = _MARGIN + 64.0 + box.bottom - box.top + 26.0
-    for row in legend:
-        y += 0.5 * row.height
-        parts.append(f'<g transform="translate({_MARGIN:.1f} {y:.1f})">{row.parts}</g>')
-        y += 0.5 * row.height + 10.0
-    width, height = f"{wide + 2.0 * _MARGIN:.0f}", f"{y - 10.0 + _MARGIN:.0f}"
-    return "\n".join([
-        f'<svg xmlns="http://www.w3.org/2000/svg" viewBox="0 0 {width} {height}" '
-        f'width="{width}" height="{height}" role="img" font-family="{_FONT}">',
-        f"<title>{html.escape(_cut(title, len(title)))}</title>",
+    y += box.bottom - box.top + 16.0
+    for row, _, height in legend:
+        y += 0.5 * height + 10.0
+        parts.append(f'<g transform="translate({_MARGIN:.1f} {y:.1f})">{row}</g>')
+        y += 0.5 * height
+    size = f"{wide + 2.0 * _MARGIN:.0f}", f"{y + _MARGIN:.0f}"
+    lines = [
+        f'<svg xmlns="http://www.w3.org/2000/svg" viewBox="0 0 {size[0]} {size[1]}" '
+        f'width="{size[0]}" height="{size[1]}" role="img" font-family="{_FONT}">',
+        f"<title>{html.escape(title)}</title>",
         f"<desc>{html.escape(heading)}.</desc>",
-        f'<rect width="{width}" height="{height}" fill="#ffffff"/>',
+        f'<rect width="{size[0]}" height="{size[1]}" fill="#ffffff"/>',
         *parts,
         "</svg>\n",
-    ])
+    ]
+    return "\n".join(lines)

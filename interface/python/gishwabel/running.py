@@ -27,9 +27,10 @@ class NotRun(Exception):
 
 
 def say(words: str, status: int) -> int:
-    """Says something on standard error, and gives a status back."""
-    with contextlib.suppress(OSError, AttributeError, ValueError):
-        print(f"gishwabel: {words}", file=sys.stderr, flush=True)
+    """Says something on standard error, if there is one, and gives a status back."""
+    if sys.stderr is not None:
+        with contextlib.suppress(OSError):
+            print(f"gishwabel: {words}", file=sys.stderr, flush=True)
     return status
 
 
@@ -133,8 +134,8 @@ def read(name: str, most: int) -> bytes:
 def read_text(name: str) -> str:
     """The text of a planner's file.
 
-    >>> read_text(str(build.ROOT / "examples" / "path.txt")).splitlines()[1]
-    'buses 3'
+    >>> read_text(str(build.ROOT / "examples" / "ieee14.m")).splitlines()[0]
+    'function mpc = ieee14'
     """
     data = read(name, _MOST_TEXT)
     if len(data) > _MOST_TEXT:
@@ -157,17 +158,14 @@ def read_network(name: str, labelled: Optional[bool]) -> Network:
         if why.number == 2 and file.isascii() and b"\0" not in file:
             say(f"{name}: this looks like a text: import makes a network file of it", REFUSED)
         raise
-    table = labels.beside(Path(name))
+    table = labels.beside(name)
     there = name != "-" and table.exists()
     if labelled and not there:
         raise NotRun(f"there is no table of labels '{table}'; import makes one")
-    if labelled is False or not there:
+    if there and labelled is not False:
+        labels.attach(network, table)
+    else:
         network.label([str(bus) for bus in range(network.buses)])
-        return network
-    try:
-        network.label(labels.parse(read(str(table), _MOST_TEXT), file, network.buses))
-    except TextError as why:
-        raise TextError(*(Fault(0, f"{table}: {fault}") for fault in why.faults)) from why
     return network
 
 
@@ -216,7 +214,7 @@ def place_for(name: str, option: Optional[str], ending: str, files: Sequence[str
 
 def _place(name: str, option: Optional[str], ending: str) -> Path:
     """A file's place by its name and the option alone."""
-    beside = Path(name).with_suffix(ending)
+    beside = labels.with_ending(name, ending)
     if option is None:
         return beside
     return Path(option, beside.name) if os.path.isdir(option) else Path(option)
