@@ -2,11 +2,12 @@
 
 For every bus of a power network, its fair part (Shapley value) of what recorders at all buses
 together can see; every number comes from the proved library. :class:`Network` has the planners' own
-names for buses, :func:`load` reads one from a network file, and :mod:`gishwabel.calls` has a function
-for each call of the library.
+names for buses, :func:`load` reads one from a network file, and :mod:`gishwabel.calls` has a
+function for each call of the library.
 
 >>> import gishwabel
->>> network = gishwabel.Network.of(["Nord", "Mitte", "Süd"], [("Nord", "Mitte"), ("Süd", "Mitte")])
+>>> lines = [("Nord", "Mitte"), ("Süd", "Mitte")]
+>>> network = gishwabel.Network.of(["Nord", "Mitte", "Süd"], lines)
 >>> network.shares()["Mitte"]
 Fraction(4, 3)
 >>> print(network.sheet().decode(), end="")

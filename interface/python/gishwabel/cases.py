@@ -1,4 +1,4 @@
-"""The planners' own files: MATPOWER cases, edge lists and texts, and the network that each holds."""
+"""The planners' own files: MATPOWER cases, edge lists and texts, and the networks in them."""
 
 from __future__ import annotations
 
@@ -221,7 +221,8 @@ def add_values(case: Case, text: str) -> None:
     for row in rows:
         label = clean_label(row.cells["bus"], row.line)
         if label not in case.lines:
-            faults.append(Fault(row.line, f"the case has no bus {label!r}{similar(label, case.lines)}"))
+            hint = similar(label, case.lines)
+            faults.append(Fault(row.line, f"the case has no bus {label!r}{hint}"))
         elif label in seen:
             faults.append(Fault(row.line, f"bus {label!r} stands in line {seen[label]} already"))
         seen[label] = row.line
@@ -314,8 +315,8 @@ def _limits_passed(case: Case, records: int, neighbours: dict[str, list[str]]) -
         yield Fault(0, "there is no bus")
     if len(labels) > most:
         first = labels[most]
-        words = f"{len(labels)} buses, and a network has {most} at most: bus {first} is one too many"
-        yield Fault(case.lines[first], words)
+        words = f"{len(labels)} buses, and a network has {most} at most"
+        yield Fault(case.lines[first], f"{words}: bus {first} is one too many")
         return
     if records > MAX_RECORDS:
         yield Fault(0, f"{records} branches, and a network file has {MAX_RECORDS} at most")

@@ -145,7 +145,7 @@ first whose loss moves most, which is what all falls add up to, and all rises.""
     command.add_argument("--all", action="store_true", help="study each line, and name none")
     _add_numbers(command)
 
-    command = add("picture", _picture, "draw networks, with buses sized and shaded by share", """
+    command = add("picture", _picture, "draw networks, buses sized and shaded by share", """
 Without -o, FILE.svg is written beside FILE.net.""")
     command.add_argument("files", nargs="+", metavar="FILE", help="- is standard input")
     command.add_argument("-o", dest="out", metavar="OUT.svg",

@@ -109,7 +109,7 @@ _TOKEN = re.compile(
     """,
     re.VERBOSE,
 )
-_BLOCK_COMMENT = re.compile(r"^[ \t]*[%#]\{[ \t]*\n.*?^[ \t]*[%#]\}[ \t]*$", re.DOTALL | re.MULTILINE)
+_BLOCK_COMMENT = re.compile(r"(?ms)^[ \t]*[%#]\{[ \t]*\n.*?^[ \t]*[%#]\}[ \t]*$")
 _NUMBER = re.compile(r"[-+]?(?:(?:\d+\.?\d*|\.\d+)(?:[eE][-+]?\d+)?|Inf|NaN)", re.ASCII)
 _CLOSE = {"(": ")", "[": "]", "{": "}"}
 # Columns that tell nothing of who is joined with whom, by name and by number.
@@ -204,7 +204,7 @@ def _rows(tokens: list[_Token]) -> Iterator[_Row]:
 
 
 def _numbers(tables: dict[str, list[_Row]], name: str, needed: int) -> Iterator[_Row]:
-    """The rows of a table of numbers, which have all the same columns, and those that are needed."""
+    """The rows of a table of numbers, which all have the same columns, and all that are needed."""
     rows = tables[name]
     for row in rows:
         wrong = [entry for entry in row.entries if not _NUMBER.fullmatch(entry)]

@@ -156,7 +156,9 @@ class Network:
         return Study(stored, over)
 
 
-def encode(needs: Sequence[int], records: Iterable[tuple[int, int]], weights: Sequence[int]) -> bytes:
+def encode(
+    needs: Sequence[int], records: Iterable[tuple[int, int]], weights: Sequence[int]
+) -> bytes:
     """The network file of buses and records, which are written in the one order that files have.
 
     Each record is kept, parallel circuits too. The weights follow unless all are 1. Nothing is
