@@ -3,7 +3,8 @@
 Numbers are lent, as in C: a network file as bytes, a line table as 16-bit numbers, numerators and
 changes as 64-bit numbers. Anything that holds such numbers side by side will do, as ``bytes``,
 ``bytearray``, ``array.array`` or a ``memoryview``. What is lent for writing is written in place,
-and what is lent for reading is not copied, unless it is read-only and no ``bytes``.
+and what is lent for reading is not copied, unless it is read-only and no ``bytes``, or does not
+begin at a multiple of its numbers' size.
 
 A call that is refused raises :class:`Refused` and has changed nothing. The rules for pointers,
 which the library does not test, are kept here: what is lent wrongly is a ``TypeError`` or a
@@ -149,7 +150,7 @@ def _lent(
             return lent, length
         if written:
             raise ValueError(f"{called} does not begin at a multiple of its numbers' size")
-    elif isinstance(buffer, bytes):
+    elif type(buffer) is bytes:  # and no kind of bytes that shows others to a view
         return buffer, length
     return (number * length).from_buffer_copy(view), length
 
@@ -228,9 +229,10 @@ def degree(table: ReadableBuffer, bus: int) -> int:
     >>> degree(array("H", [3, 1, 1, 1, 1, 1, 1, 0, 1, 3, 4, 1, 0, 2, 1]), 1)
     2
     """
+    bus = _index(bus)  # before anything is lent, since it may run code of the caller's
     entries, length = _lent("table", table, _TABLE)
     found = _SIZE()
-    _call("degree", entries, length, _index(bus), ctypes.byref(found))
+    _call("degree", entries, length, bus, ctypes.byref(found))
     return found.value
 
 
@@ -243,9 +245,10 @@ def row(table: ReadableBuffer, bus: int) -> memoryview:
     >>> row(array("H", [3, 1, 1, 1, 1, 1, 1, 0, 1, 3, 4, 1, 0, 2, 1]), 1).tolist()
     [0, 2]
     """
+    bus = _index(bus)
     entries, length = _lent("table", table, _TABLE)
     start, count = _SIZE(), _SIZE()
-    _call("row", entries, length, _index(bus), ctypes.byref(start), ctypes.byref(count))
+    _call("row", entries, length, bus, ctypes.byref(start), ctypes.byref(count))
     numbers = memoryview(table).cast("B").cast("H").toreadonly()
     return numbers[start.value : start.value + count.value]
 
@@ -280,9 +283,10 @@ def share(table: ReadableBuffer, bus: int) -> Ratio:
     >>> share(array("H", [3, 1, 1, 1, 1, 1, 1, 0, 1, 3, 4, 1, 0, 2, 1]), 1)
     Ratio(numerator=8, denominator=6)
     """
+    bus = _index(bus)
     entries, length = _lent("table", table, _TABLE)
     numerator, over = ctypes.c_uint64(), ctypes.c_uint64()
-    _call("share", entries, length, _index(bus), ctypes.byref(numerator), ctypes.byref(over))
+    _call("share", entries, length, bus, ctypes.byref(numerator), ctypes.byref(over))
     return Ratio(numerator.value, over.value)
 
 
@@ -301,11 +305,12 @@ def outage(table: ReadableBuffer, line: int, changes: WriteableBuffer) -> int:
     >>> changes.tolist()
     [1, -2, 1, 0]
     """
+    line = _index(line)
     entries, length = _lent("table", table, _TABLE)
     stored, room = _lent("changes", changes, _CHANGES, written=True)
     _apart(entries, stored)
     over = ctypes.c_uint64()
-    _call("outage", entries, length, _index(line), stored, room, ctypes.byref(over))
+    _call("outage", entries, length, line, stored, room, ctypes.byref(over))
     return over.value
 
 

@@ -4,6 +4,7 @@ from __future__ import annotations
 
 import re
 import subprocess
+import unicodedata
 from collections import defaultdict
 from collections.abc import Iterable, Iterator
 from dataclasses import dataclass, field
@@ -13,7 +14,8 @@ from typing import NamedTuple
 from gishwabel import calls, matpower
 from gishwabel.build import ROOT
 from gishwabel.network import Network, encode
-from gishwabel.texts import Fault, Row, TextError, clean_label, read_table
+from gishwabel.texts import Fault, Row, TextError
+from gishwabel.texts import clean_label, column_name, is_comment, read_table
 
 # The library's limits that no call of it gives; a test holds them against what it refuses.
 MAX_NEIGHBOURS = 23
@@ -63,9 +65,9 @@ def kind_of(name: str, text: str) -> str:
     for ending, kind in endings.items():
         if name.lower().endswith(ending):
             return kind
-    if re.search(r"^\s*(\w+\.)?(bus|branch)\s*=", text, re.MULTILINE):
+    if re.search(r"^[ \t]*(\w+\.)?(bus|branch)[ \t]*=", text, re.MULTILINE):
         return "matpower"
-    return "text" if re.search(r"^\s*buses\s", text, re.MULTILINE) else "csv"
+    return "text" if re.search(r"^[ \t]*buses[ \t]", text, re.MULTILINE) else "csv"
 
 
 def parse(kind: str, text: str, names: bool = False) -> Case:
@@ -91,7 +93,7 @@ def _parse_matpower(text: str, names: bool) -> Case:
     case = Case("MATPOWER case")
     tables = matpower.read(text, names)
     label_of = {bus.number: bus.name if names else str(bus.number) for bus in tables.buses}
-    isolated = [label_of[bus.number] for bus in tables.buses if bus.kind == matpower.ISOLATED]
+    isolated = {label_of[bus.number] for bus in tables.buses if bus.kind == matpower.ISOLATED}
     for bus in tables.buses:
         label = label_of[bus.number]
         if label in isolated:
@@ -114,7 +116,7 @@ _ENDS = [
     ("source", "target"), ("bus0", "bus1"), ("bus1", "bus2"), ("bus_1", "bus_2"),
     ("bus_a", "bus_b"),
 ]
-_STATUS = ("status", "in_service")
+_STATUS = ("status", "in_service", "br_status")
 _IN_SERVICE = {
     "1": True, "1.0": True, "true": True, "yes": True,
     "0": False, "0.0": False, "false": False, "no": False,
@@ -136,17 +138,22 @@ def _parse_edges(text: str) -> Case:
         )
         raise TextError(Fault(0, words))
     status = [name for name in _STATUS if name in columns]
-    _note_unused(case, columns, [*ends[0], *status[:1]])
+    _note_unused(case, columns, [*ends[0], *status])
+    comments = [str(line) for line, words in enumerate(text.split("\n"), 1) if is_comment(words)]
+    if comments:
+        case.notes.append(f"left out: comments in line {', '.join(comments)}")
     lines: dict[str, int] = {}
     for row in rows:
+        if {column_name(row.cells[name]) for name in ends[0]} == set(ends[0]):
+            raise TextError(Fault(row.line, "the header stands here again"))
         first, second = (clean_label(row.cells[name], row.line) for name in ends[0])
         branch = Branch(first, second, row.line)
         for label in (first, second):
             lines.setdefault(label, row.line)
-        if status and not _in_service(row, status[0]):
-            case.leave_out(f"branch {branch}", branch.line, "out of service")
-        else:
+        if all(_in_service(row, name) for name in status):
             case.branches.append(branch)
+        else:
+            case.leave_out(f"branch {branch}", branch.line, "out of service")
     case.lines = {label: lines[label] for label in sorted(lines, key=_natural)}
     return case
 
@@ -159,10 +166,13 @@ def _in_service(row: Row, column: str) -> bool:
     return _IN_SERVICE[word]
 
 
-def _natural(label: str) -> tuple[list[object], str]:
+def _natural(label: str) -> tuple[list[tuple[int, str]], str]:
     """By what names are sorted: Bus 2 comes before Bus 10."""
-    parts = re.split(r"(\d+)", label)
-    return [int(part) if part.isdecimal() else part for part in parts], label
+    parts = []
+    for place, part in enumerate(re.split(r"(\d+)", label)):
+        digits = part.lstrip("0") if place % 2 else part
+        parts.append((len(digits) if place % 2 else 0, digits))
+    return parts, label
 
 
 def _note_unused(case: Case, columns: list[str], used: list[str]) -> None:
@@ -187,13 +197,13 @@ def _parse_text(text: str) -> Case:
     values: dict[str, list[int]] = {"needs": [], "weights": []}
     for line, raw in enumerate(text.split("\n"), start=1):
         word, *rest = raw.partition("#")[0].split() or [""]
+        numbers = [int(digits.lstrip("0") or "0") for digits in rest if digits != "all"]
         if word == "buses":
-            case.lines = {str(bus): line for bus in range(int(rest[0]))}
+            case.lines = {str(bus): line for bus in range(numbers[0])}
         elif word == "line":
-            case.branches.append(Branch(str(int(rest[0])), str(int(rest[1])), line))
+            case.branches.append(Branch(str(numbers[0]), str(numbers[1]), line))
         elif word in values:
-            many = [int(rest[1])] * len(case.lines) if rest[0] == "all" else map(int, rest)
-            values[word].extend(many)
+            values[word] += numbers * len(case.lines) if rest[0] == "all" else numbers
     case.needs = dict(zip(case.lines, values["needs"]))
     case.weights = dict(zip(case.lines, values["weights"]))
     return case
@@ -211,25 +221,26 @@ def add_values(case: Case, text: str) -> None:
     {'B': 10}
     """
     columns, rows = read_table(text)
-    values = {"need": case.needs, "weight": case.weights}
+    values = {"need": (case.needs, MAX_NEED), "weight": (case.weights, MAX_WEIGHT)}
     if "bus" not in columns or not set(values) & set(columns):
         words = f"the header has {', '.join(columns)}; bus, and need or weight, must be there"
         raise TextError(Fault(0, words))
     _note_unused(case, columns, ["bus", *values])
     seen: dict[str, int] = {}
-    faults = []
+    faults: list[Fault] = []
     for row in rows:
         label = clean_label(row.cells["bus"], row.line)
         if label not in case.lines:
-            hint = similar(label, case.lines)
+            hint = similar(label, case.lines) if len(faults) < 3 else ""
             faults.append(Fault(row.line, f"the case has no bus {label!r}{hint}"))
         elif label in seen:
             faults.append(Fault(row.line, f"bus {label!r} stands in line {seen[label]} already"))
         seen[label] = row.line
-        for name, value_of in values.items():
+        for name, (value_of, most) in values.items():
             cell = row.cells.get(name, "")
-            if cell and not re.fullmatch(r"[0-9]{1,9}", cell):
-                faults.append(Fault(row.line, f"{name} {cell!r} is not a whole number"))
+            if cell and not (re.fullmatch(r"[0-9]{1,9}", cell) and 1 <= int(cell) <= most):
+                words = f"bus {label} has {name} {cell!r}, which is not 1 to {most}"
+                faults.append(Fault(row.line, words))
             elif cell:
                 value_of[label] = int(cell)
     if faults:
@@ -320,15 +331,27 @@ def _limits_passed(case: Case, records: int, neighbours: dict[str, list[str]]) -
         return
     if records > MAX_RECORDS:
         yield Fault(0, f"{records} branches, and a network file has {MAX_RECORDS} at most")
+    spelled: dict[str, str] = {}
     for label, others in neighbours.items():
         line, degree = case.lines[label], len(others)
         need, weight = case.needs.get(label, 1), case.weights.get(label, 1)
+        if spelled.setdefault(_number_in(label), label) != label:
+            before = spelled[_number_in(label)]
+            words = f"buses {before} and {label} are one number, spelled in two ways"
+            yield Fault(line, words)
         if degree > MAX_NEIGHBOURS:
             words = f"bus {label} has {degree} neighbours, and {MAX_NEIGHBOURS} is the most"
             yield Fault(line, f"{words}: {', '.join(others)}")
         elif not 1 <= need <= MAX_NEED:
-            yield Fault(line, f"bus {label} has need {need}, which is not 1 to {MAX_NEED}")
+            yield Fault(0, f"bus {label} has need {need}, which is not 1 to {MAX_NEED}")
         elif need > max(degree, 1):
-            yield Fault(line, f"bus {label} has need {need} and only {degree} neighbours")
+            yield Fault(0, f"bus {label} has need {need} and only {degree} neighbours")
         if not 1 <= weight <= MAX_WEIGHT:
-            yield Fault(line, f"bus {label} has weight {weight}, which is not 1 to {MAX_WEIGHT}")
+            yield Fault(0, f"bus {label} has weight {weight}, which is not 1 to {MAX_WEIGHT}")
+
+
+def _number_in(label: str) -> str:
+    """A name that is a number, in one spelling: 7 for 007, 7.0 and full-width digits."""
+    plain = unicodedata.normalize("NFKC", label).replace(",", "")
+    found = re.fullmatch(r"0*([0-9]+)(?:\.0*)?", plain)
+    return found[1] if found else label

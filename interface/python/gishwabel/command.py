@@ -21,7 +21,9 @@ from gishwabel.running import (
     DISAGREES,
     DONE,
     NOT_RUN,
+    NotRun,
     Progress,
+    check_places,
     each,
     place_for,
     read_network,
@@ -29,7 +31,7 @@ from gishwabel.running import (
     say,
     write,
 )
-from gishwabel.texts import Fault, TextError, clean_label, decimal
+from gishwabel.texts import Fault, TextError, decimal, tidy
 
 if TYPE_CHECKING:
     from _typeshed import SupportsWrite
@@ -59,7 +61,7 @@ def main(arguments: Optional[Sequence[str]] = None) -> int:
             stream.reconfigure(encoding="utf-8", errors="surrogateescape", newline="\n")
     try:
         try:
-            options = _parser().parse_args(arguments)
+            options = _parse(sys.argv[1:] if arguments is None else arguments)
             status = int(options.run(options))
         except SystemExit as end:  # of --help, of --version, or of arguments that are wrong
             status = int(end.code or 0)
@@ -87,8 +89,16 @@ class _Parser(argparse.ArgumentParser):
         (file or sys.stderr).write(message)  # argparse itself passes over a full disk
 
 
-def _parser() -> argparse.ArgumentParser:
-    """The options of the command and of its subcommands."""
+def _parse(words: Sequence[str]) -> Namespace:
+    """What people typed. Behind the subcommand, options and files may stand in any order."""
+    parser, subcommands = _parsers()
+    if words and words[0] in subcommands:
+        return subcommands[words[0]].parse_intermixed_args(words[1:])
+    return parser.parse_args(words)  # --help, --version, or something wrong
+
+
+def _parsers() -> tuple[_Parser, dict[str, _Parser]]:
+    """The options of the command, and of each of its subcommands."""
     layout = argparse.RawDescriptionHelpFormatter
     parser = _Parser(
         prog="gishwabel", allow_abbrev=False, epilog=_STATUSES, formatter_class=layout,
@@ -124,7 +134,8 @@ was merged or left out is told by the case's own names and lines.""")
     command = add("sheet", _sheet, "print the proved share sheets of network files", """
 Without options a sheet is what ./share-sheet prints, byte by byte.""")
     command.add_argument("files", nargs="+", metavar="FILE", help="- is standard input")
-    command.add_argument("--labels", action="store_true", help="print each bus's label for its number")
+    command.add_argument("--labels", action="store_true",
+                         help="print each bus's label in place of its number")
     command.add_argument("--rank", action="store_true", help="largest shares first, ties by bus")
     command.add_argument("--csv", action="store_true",
                          help="print a table for spreadsheets, with decimals beside the fractions")
@@ -156,7 +167,7 @@ Without -o, FILE.svg is written beside FILE.net.""")
 
     add("build", _build, "build the proved library, if it has to be built", """
 The others do that by themselves. It prints where the shared object is.""")
-    return parser
+    return parser, commands.choices
 
 
 def _add_numbers(command: argparse.ArgumentParser) -> None:
@@ -174,20 +185,24 @@ def _import(options: Namespace) -> int:
     def work(name: str, _: Progress) -> int:
         text = read_text(name)
         path = place_for(name, options.out, ".net", options.files)
+        table = labels.beside(path)
+        check_places([path, table], [*options.files, *([options.buses] if options.buses else [])])
         case = cases.parse(options.kind or cases.kind_of(name, text), text, options.names)
-        if options.buses:
+        if options.buses is not None:
             try:
                 cases.add_values(case, read_text(options.buses))
             except TextError as why:
                 raise TextError(*(Fault(0, f"{options.buses}: {x}") for x in why.faults)) from why
+            except NotRun as why:
+                raise NotRun(f"{options.buses}: {why}") from why
         network, records, notes = cases.settle(case)
         names = _names(network)
         write(path, network.file)
-        write(labels.beside(path), labels.encode(path.name, network.file, names))
+        write(table, labels.encode(path.name, network.file, names))
         print(f"{name}: {case.kind}, {len(names)} buses, {records} branches in service")
         print("".join(f"{note}\n" for note in notes), end="")
         print(f"wrote {path}: {network.buses} buses, {records} records, {network.lines} lines")
-        print(f"wrote {labels.beside(path)}")
+        print(f"wrote {table}")
         return DONE
 
     return each(options.files, work)
@@ -310,6 +325,7 @@ def _picture(options: Namespace) -> int:
     def work(name: str, progress: Progress) -> int:
         network = read_network(name, _labelled(options))
         path = place_for(name, options.out, ".svg", options.files)
+        check_places([path], options.files)
         numerators, over = network.numerators()
         line = None if options.outage is None else _line(network, options.outage)
         changes = None if line is None else network.outage(line).changes
@@ -346,7 +362,7 @@ def _names(network: Network) -> list[str]:
 
 def _bus(network: Network, word: str) -> int:
     """The bus that somebody has typed."""
-    label = clean_label(word, 0)
+    label = tidy(word)
     try:
         return network.bus(label)
     except KeyError:
@@ -362,15 +378,15 @@ def _ends(network: Network, names: Sequence[str], line: int) -> str:
 def _line(network: Network, word: str) -> int:
     """The line that somebody has typed: its number, or the names of its ends with a hyphen."""
     if word.isascii() and word.isdigit():
-        line = int(word)
-        if line >= network.lines:
-            words = f"there is no line {line}: the network has {network.lines}, numbered from 0"
-            raise TextError(Fault(0, words))
-        return line
+        digits = word.lstrip("0") or "0"
+        if len(digits) < 10 and int(digits) < network.lines:
+            return int(digits)
+        words = f"there is no line {digits}: the network has {network.lines}, numbered from 0"
+        raise TextError(Fault(0, words))
     parts = word.split("-")
     splits = [("-".join(parts[:at]), "-".join(parts[at:])) for at in range(1, len(parts))]
     names = _names(network)
-    ends = [pair for pair in splits if all(clean_label(end, 0) in names for end in pair)]
+    ends = [pair for pair in splits if all(tidy(end) in names for end in pair)]
     if len(ends) != 1:
         words = "names no two buses" if not ends else "can be read in more than one way"
         raise TextError(Fault(0, f"the line {word!r} {words}; it may be given by its number"))

@@ -16,9 +16,9 @@ from collections.abc import Sequence
 from pathlib import Path
 from typing import Union
 
-from gishwabel import build
+from gishwabel import build, calls
 from gishwabel.network import Network
-from gishwabel.texts import Fault, TextError, clean_label, decode, read_table
+from gishwabel.texts import MOST_BYTES, Fault, TextError, clean_label, decode, read_table
 
 
 def with_ending(name: Union[str, Path], ending: str) -> Path:
@@ -47,8 +47,9 @@ def load(network_file: Union[str, Path]) -> Network:
     >>> load(build.ROOT / "examples" / "ieee14.net").labels[:3]
     ['1', '2', '3']
     """
-    network = Network(Path(network_file).read_bytes())
-    if beside(network_file).exists():
+    with open(network_file, "rb") as file:
+        network = Network(file.read(calls.max_bytes() + 1))
+    if os.path.exists(beside(network_file)):
         attach(network, beside(network_file))
     return network
 
@@ -61,8 +62,10 @@ def attach(network: Network, table: Path) -> None:
     Traceback (most recent call last):
     gishwabel.texts.TextError: ...ieee14.labels: line 1: the labels belong to other bytes ...
     """
+    with open(table, "rb") as file:
+        data = file.read(MOST_BYTES + 1)
     try:
-        network.label(parse(table.read_bytes(), network.file, network.buses))
+        network.label(parse(data, network.file, network.buses))
     except TextError as why:
         raise TextError(*(Fault(0, f"{table}: {fault}") for fault in why.faults)) from why
 
@@ -76,6 +79,7 @@ def encode(name: str, file: bytes, labels: Sequence[str]) -> bytes:
     1,Süd
     """
     text = io.StringIO()
+    name = "".join(letter if letter.isprintable() else "?" for letter in name)
     text.write(f"# labels of {name}, sha256 {hashlib.sha256(file).hexdigest()}\n")
     rows = csv.writer(text, lineterminator="\n")
     rows.writerow(["bus", "label"])

@@ -1,7 +1,7 @@
 """The buses and branches of a MATPOWER case file.
 
-A case file is a program in MATLAB's language that gives tables. Only the tables are read here; a
-statement that changes who is joined with whom afterwards is refused, since it is not run.
+A case file is a program in MATLAB's language that gives tables. Only the tables are read here, and
+no statement is run: one that is not known to leave buses and branches as they are is refused.
 """
 
 from __future__ import annotations
@@ -51,7 +51,7 @@ def read(text: str, names: bool = False) -> Tables:
     >>> [bus.number for bus in tables.buses], tables.branches
     ([1, 2], [Branch(first=1, second=2, in_service=True, line=1)])
     """
-    tables = _tables(text)
+    tables = _tables(text, names)
     faults: list[Fault] = []
     buses: dict[int, Bus] = {}
     name_of = _names(tables) if names else []
@@ -109,25 +109,44 @@ _TOKEN = re.compile(
     """,
     re.VERBOSE,
 )
-_BLOCK_COMMENT = re.compile(r"(?ms)^[ \t]*[%#]\{[ \t]*\n.*?^[ \t]*[%#]\}[ \t]*$")
-_NUMBER = re.compile(r"[-+]?(?:(?:\d+\.?\d*|\.\d+)(?:[eE][-+]?\d+)?|Inf|NaN)", re.ASCII)
+_NUMBER = re.compile(r"(?ai)[-+]?(?:(?:\d+\.?\d*|\.\d+)(?:e[-+]?\d+)?|inf|nan)")
 _CLOSE = {"(": ")", "[": "]", "{": "}"}
+
+# What MATPOWER's functions idx_bus and idx_brch give, in this order: the columns among them are
+# those behind the types of buses, and all for branches.
+_CONSTANTS = {
+    "idx_bus": "PQ PV REF NONE BUS_I BUS_TYPE PD QD GS BS BUS_AREA VM VA BASE_KV ZONE VMAX VMIN "
+    "LAM_P LAM_Q MU_VMAX MU_VMIN".split(),
+    "idx_brch": "F_BUS T_BUS BR_R BR_X BR_B RATE_A RATE_B RATE_C TAP SHIFT BR_STATUS PF QF PT QT "
+    "MU_SF MU_ST ANGMIN ANGMAX MU_ANGMIN MU_ANGMAX".split(),
+}
 # Columns that tell nothing of who is joined with whom, by name and by number.
 _ELECTRICAL = {
-    "bus": "PD QD GS BS BUS_AREA VM VA BASE_KV ZONE VMAX VMIN 3 4 5 6 7 8 9 10 11 12 13",
-    "branch": "BR_R BR_X BR_B RATE_A RATE_B RATE_C TAP SHIFT ANGMIN ANGMAX 3 4 5 6 7 8 9 10 12 13",
-    "bus_name": "",
+    "bus": {*_CONSTANTS["idx_bus"][6:], *map(str, range(3, 14))},
+    "branch": {*_CONSTANTS["idx_brch"], *map(str, range(3, 14))}
+    - {"F_BUS", "T_BUS", "BR_STATUS", "11"},
 }
 
 
 def _tokens(text: str) -> Iterator[_Token]:
     """The pieces of a case file, without comments."""
-    text = _BLOCK_COMMENT.sub(lambda block: "\n" * block[0].count("\n"), text)
     line = 1
-    for found in _TOKEN.finditer(text):
+    for found in _TOKEN.finditer(_without_blocks(text)):
         if found.lastgroup != "skip":
             yield _Token(str(found.lastgroup), found[0], line)
         line += found[0].count("\n")
+
+
+def _without_blocks(text: str) -> str:
+    """A text with blank lines for its block comments, which stand between %{ and %}."""
+    depth, lines = 0, text.split("\n")
+    for place, line in enumerate(lines):
+        mark = line.strip()
+        depth += mark in ("%{", "#{")
+        if depth:
+            lines[place] = ""
+        depth -= depth > 0 and mark in ("%}", "#}")
+    return "\n".join(lines)
 
 
 def _statements(text: str) -> Iterator[list[_Token]]:
@@ -152,55 +171,104 @@ def _statements(text: str) -> Iterator[list[_Token]]:
         yield statement
 
 
-def _tables(text: str) -> dict[str, list[_Row]]:
-    """The tables bus, branch and bus_name of a case file."""
+def _tables(text: str, names: bool) -> dict[str, list[_Row]]:
+    """The tables bus and branch of a case file, and bus_name if its names are wanted."""
     tables: dict[str, list[_Row]] = {}
+    wanted = ["bus", "branch", "bus_name"] if names else ["bus", "branch"]
+    faults = []
+    kept = {"mpc", *wanted, *(name for known in _CONSTANTS.values() for name in known)}
     for statement in _statements(text):
         head, marks = statement[0], [token.text for token in statement]
-        found = re.fullmatch(r"(?:\w+\.)?(bus|branch|bus_name)", head.text)
-        if not found or "=" not in marks:
-            continue
-        name, equals = found[1], marks.index("=")
-        if equals > 1:
-            _check_change(name, head, marks[1:equals])
-        elif name in tables:
-            raise TextError(Fault(head.line, f"{head.text} is given a second time"))
-        elif len(marks) < 4 or _CLOSE.get(marks[2]) != marks[-1]:
-            raise TextError(Fault(head.line, f"{head.text} is not given as a table"))
-        else:
+        name = head.text.rpartition(".")[2]
+        if marks[1:2] == ["="] and name in wanted and re.fullmatch(r"(\w+\.)?\w+", head.text):
+            if name in tables:
+                raise TextError(Fault(head.line, f"{head.text} is given a second time"))
+            if len(marks) < 4 or _CLOSE.get(marks[2]) != marks[-1]:
+                raise TextError(Fault(head.line, f"{head.text} is not given as a table"))
             tables[name] = list(_rows(statement[3:-1]))
-    for name in ("bus", "branch"):
+            kept.add(head.text.partition(".")[0])
+        elif not _is_harmless(statement, marks, wanted, kept):
+            words = "this statement is not run here, and may change who is joined with whom"
+            faults.append(Fault(head.line, f"{words}: save the case with savecase"))
+    for name in wanted:
         if name not in tables:
             raise TextError(Fault(0, f"there is no table mpc.{name}"))
+    if faults:
+        raise TextError(*faults)
     return tables
 
 
-def _check_change(name: str, head: _Token, index: list[str]) -> None:
-    """Refuses a statement that may change who is joined with whom.
+def _is_harmless(
+    statement: list[_Token], marks: list[str], wanted: list[str], kept: set[str]
+) -> bool:
+    """Whether a statement that gives no table leaves the wanted tables as they are.
 
-    Some case files convert units below their tables. Such a statement changes electrical columns
-    of all rows, which do not matter here.
+    Case files have such statements for other tables and for units, which some of them convert
+    below their tables. What is not known to be harmless is not. ``kept`` are the names of what
+    must not be assigned to as a whole: the case, its tables, and MATPOWER's names for columns.
     """
-    if index[:3] == ["(", ":", ","]:
-        columns = [mark for mark in index[3:-1] if mark not in ("[", "]", ",")]
-        if columns and set(columns) <= set(_ELECTRICAL[name].split()):
-            return
-    words = f"a statement changes {head.text}, and is not run here: save the case with savecase"
-    raise TextError(Fault(head.line, words))
+    head = marks[0]
+    if head == "function" or marks in (["end"], ["endfunction"], ["return"], ["define_constants"]):
+        return True
+    if "=" not in marks or any(re.fullmatch(r"eval\w*|assignin", mark) for mark in marks):
+        return False
+    equals = marks.index("=")
+    target, value = marks[:equals], statement[equals + 1 :]
+    if head == "[" and len(value) == 1:
+        names = [mark for mark in target[1:-1] if mark != ","]
+        if value[0].text in ("idx_gen", "idx_cost", "idx_dcline"):
+            return not kept & set(names)
+        return names == _CONSTANTS.get(value[0].text, [])[: len(names)]
+    path = head.split(".")
+    if not re.fullmatch(r"\w+(\.\w+)*", head) or not _is_index(target[1:]):
+        return False
+    if path[-1] in _ELECTRICAL and len(path) < 3 and len(target) > 1:
+        return bool(value) and value[0].kind == "word" and _is_electrical(path[-1], target[1:])
+    if len(path) > 1:
+        return path[1] not in wanted  # another part of the case
+    return head not in kept
+
+
+def _is_index(marks: list[str]) -> bool:
+    """Whether this is nothing, or one pair of brackets with all else inside it."""
+    depth = 0
+    for place, mark in enumerate(marks):
+        if depth == 0 and (place > 0 or mark not in _CLOSE):
+            return False
+        depth += (mark in _CLOSE) - (mark in _CLOSE.values())
+    return depth == 0
+
+
+def _is_electrical(name: str, index: list[str]) -> bool:
+    """Whether an index names electrical columns of all rows of a table, and nothing else."""
+    if index[:3] != ["(", ":", ","]:
+        return False
+    columns: list[str] = []
+    for mark in index[3:-1]:
+        span = re.fullmatch(r"(\d{1,2}):(\d{1,2})", mark)
+        if span:
+            columns += map(str, range(int(span[1]), int(span[2]) + 1))
+        elif mark not in ("[", "]", ","):
+            columns.append(mark)
+    return bool(columns) and set(columns) <= _ELECTRICAL[name]
 
 
 def _rows(tokens: list[_Token]) -> Iterator[_Row]:
     """The rows of a table, from what stands between its brackets."""
     row: list[_Token] = []
+    comma = True  # one may not stand in front of the first entry, nor behind another comma
     for token in [*tokens, _Token("newline", "\n", 0)]:
         if token.kind == "newline" or token.text == ";":
             if row:
                 yield _Row(row[0].line, [entry.text for entry in row])
-            row = []
+            row, comma = [], True
         elif token.kind in ("word", "text"):
             row.append(token)
-        elif token.text != ",":
+            comma = False
+        elif token.text != "," or comma:
             raise TextError(Fault(token.line, f"{token.text!r} is no entry of a table"))
+        else:
+            comma = True
 
 
 def _numbers(tables: dict[str, list[_Row]], name: str, needed: int) -> Iterator[_Row]:
@@ -229,9 +297,13 @@ def _whole(row: _Row, column: int) -> int:
 
 
 def _names(tables: dict[str, list[_Row]]) -> list[str]:
-    """The names of mpc.bus_name, one for each bus and all different."""
+    """The names of mpc.bus_name, one for each bus and all different, in one column or row."""
     found: dict[str, int] = {}
-    for row in tables.get("bus_name", []):
+    rows = tables["bus_name"]
+    for row in rows:
+        if len(rows) > 1 and len(row.entries) > 1:
+            words = "mpc.bus_name has rows and columns, where one name stands for each bus"
+            raise TextError(Fault(row.line, words))
         for entry in row.entries:
             quote = entry[0]
             if quote not in "'\"":

@@ -65,8 +65,11 @@ class Network:
         """
         bus_of = {label: bus for bus, label in enumerate(labels)}
         records = [(bus_of[first], bus_of[second]) for first, second in lines]
-        ones = [1] * len(labels)
-        return cls(encode(needs or ones, records, weights or ones), labels)
+        needs = [1] * len(labels) if needs is None else needs
+        weights = [1] * len(labels) if weights is None else weights
+        if len(needs) != len(labels) or len(weights) != len(labels):
+            raise ValueError(f"{len(labels)} buses want as many needs and weights")
+        return cls(encode(needs, records, weights), labels)
 
     @classmethod
     def from_networkx(cls, graph: Any, need: str = "need", weight: str = "weight") -> Network:

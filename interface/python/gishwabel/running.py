@@ -15,11 +15,10 @@ from typing import Optional
 from gishwabel import build, calls, labels
 from gishwabel.calls import Refused
 from gishwabel.network import Network
-from gishwabel.texts import Fault, TextError, decode
+from gishwabel.texts import MOST_BYTES, TextError, decode
 
 DONE, NOT_RUN, REFUSED, DISAGREES = 0, 1, 2, 3
 _BEST_FIRST = [DONE, REFUSED, NOT_RUN, DISAGREES]
-_MOST_TEXT = 64 * 2**20
 
 
 class NotRun(Exception):
@@ -137,10 +136,7 @@ def read_text(name: str) -> str:
     >>> read_text(str(build.ROOT / "examples" / "ieee14.m")).splitlines()[0]
     'function mpc = ieee14'
     """
-    data = read(name, _MOST_TEXT)
-    if len(data) > _MOST_TEXT:
-        raise TextError(Fault(0, "the text has more than 64 MB"))
-    return decode(data)
+    return decode(read(name, MOST_BYTES))
 
 
 def read_network(name: str, labelled: Optional[bool]) -> Network:
@@ -159,7 +155,9 @@ def read_network(name: str, labelled: Optional[bool]) -> Network:
             say(f"{name}: this looks like a text: import makes a network file of it", REFUSED)
         raise
     table = labels.beside(name)
-    there = name != "-" and table.exists()
+    there = name != "-" and os.path.exists(table)
+    if labelled and name == "-":
+        raise NotRun("standard input has no table of labels")
     if labelled and not there:
         raise NotRun(f"there is no table of labels '{table}'; import makes one")
     if there and labelled is not False:
@@ -170,22 +168,23 @@ def read_network(name: str, labelled: Optional[bool]) -> Network:
 
 
 def write(path: Path, data: bytes) -> None:
-    """Writes a file as a whole or not at all.
+    """Writes a file as a whole or not at all; what a link points to, if it is one.
 
     >>> with tempfile.TemporaryDirectory() as folder:
     ...     write(Path(folder, "a"), b"text")
     ...     os.listdir(folder)
     ['a']
     """
+    place = os.path.realpath(path)
     try:
-        with tempfile.NamedTemporaryFile(dir=path.parent, delete=False) as new:
+        with tempfile.NamedTemporaryFile(dir=os.path.dirname(place), delete=False) as new:
             try:
                 new.write(data)
                 new.flush()
                 mask = os.umask(0)
                 os.umask(mask)
                 os.chmod(new.name, 0o666 & ~mask)
-                os.replace(new.name, path)
+                os.replace(new.name, place)
             except BaseException:
                 os.unlink(new.name)
                 raise
@@ -201,11 +200,10 @@ def place_for(name: str, option: Optional[str], ending: str, files: Sequence[str
     """
     if option is None and name == "-":
         raise NotRun("say with -o where to write")
-    if option is not None and len(files) > 1 and not os.path.isdir(option):
-        raise NotRun(f"-o must be a folder for several files, and '{option}' is none")
+    if option is not None and not os.path.isdir(option):
+        if len(files) > 1 or not option or option.endswith("/"):
+            raise NotRun(f"-o must be a folder here, and there is no folder '{option}'")
     place = _place(name, option, ending)
-    if place == Path(name):
-        raise NotRun("it would be overwritten; say with -o where to write")
     for other in files:
         if other != name and _place(other, option, ending) == place:
             raise NotRun(f"'{place}' would be written for '{other}' too")
@@ -218,3 +216,17 @@ def _place(name: str, option: Optional[str], ending: str) -> Path:
     if option is None:
         return beside
     return Path(option, beside.name) if os.path.isdir(option) else Path(option)
+
+
+def check_places(places: Sequence[Path], inputs: Sequence[str]) -> None:
+    """Sees to it that nothing is overwritten that is read, or is no file.
+
+    >>> check_places([Path("examples/../examples/path.net")], ["examples/path.net"])
+    Traceback (most recent call last):
+    gishwabel.running.NotRun: 'examples/../examples/path.net' is read, and would be overwritten
+    """
+    for place in places:
+        if os.path.exists(place) and not os.path.isfile(place):
+            raise NotRun(f"'{place}' is there and is no file")
+        if any(os.path.realpath(place) == os.path.realpath(name) for name in inputs):
+            raise NotRun(f"'{place}' is read, and would be overwritten")

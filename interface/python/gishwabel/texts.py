@@ -5,9 +5,14 @@ from __future__ import annotations
 import csv
 import io
 import unicodedata
+from collections import Counter
 from collections.abc import Iterator
 from fractions import Fraction
 from typing import NamedTuple
+
+
+MOST_BYTES = 16 * 2**20
+"""The bytes of the largest text that is read; a case of 512 buses has some hundred thousand."""
 
 
 class Fault(NamedTuple):
@@ -37,13 +42,16 @@ def decode(data: bytes) -> str:
     >>> decode(b"\\xef\\xbb\\xbffrom,to\\r\\n1,2\\r\\n")
     'from,to\\n1,2\\n'
     """
+    if len(data) > MOST_BYTES:
+        raise TextError(Fault(0, f"the text has more than {MOST_BYTES // 2**20} MB"))
     encoding = "utf-16" if data[:2] in (b"\xff\xfe", b"\xfe\xff") else "utf-8-sig"
     try:
         text = data.decode(encoding)
     except UnicodeDecodeError as why:
-        line = 1 + data.count(b"\n", 0, why.start)
+        before = why.object[: why.start].replace(b"\r\n", b"\n").replace(b"\r", b"\n")
+        line = 0 if encoding == "utf-16" else 1 + before.count(b"\n")
         words = f"this is no text in {encoding.replace('-sig', '').upper()}; save it as UTF-8"
-        raise TextError(Fault(line if encoding != "utf-16" else 0, words)) from why
+        raise TextError(Fault(line, words)) from why
     text = text.replace("\r\n", "\n").replace("\r", "\n")
     if "\0" in text:
         line = 1 + text.count("\n", 0, text.index("\0"))
@@ -51,18 +59,29 @@ def decode(data: bytes) -> str:
     return text
 
 
-def clean_label(text: str, line: int) -> str:
-    """A bus's name as it is kept: blanks around it gone, and each run of blanks one blank.
+def tidy(text: str) -> str:
+    """A name with no blanks around it, one for each run of blanks, and accents in one form.
 
-    Letters with accents are kept in one form, so that names that look the same are the same. What
-    would spoil a line of a sheet, a control character, is a :class:`TextError`.
+    >>> tidy("  Bus 1     HV ")
+    'Bus 1 HV'
+    """
+    return " ".join(unicodedata.normalize("NFC", text).split())
+
+
+def clean_label(text: str, line: int) -> str:
+    """A bus's name as it is kept, so that names that look the same are the same.
+
+    A name that is empty, would be taken for a comment, or would spoil a line of a sheet is a
+    :class:`TextError`.
 
     >>> clean_label("  Bus 1     HV ", 4)
     'Bus 1 HV'
     """
-    label = " ".join(unicodedata.normalize("NFC", text).split())
+    label = tidy(text)
     if not label:
         raise TextError(Fault(line, "a bus has no name here"))
+    if is_comment(label):
+        raise TextError(Fault(line, f"the name {label!r} begins as a comment does"))
     if any(unicodedata.category(character) in ("Cc", "Cf", "Cs") for character in label):
         raise TextError(Fault(line, f"the name {label!r} has a character that cannot be printed"))
     return label
@@ -79,28 +98,49 @@ def read_table(text: str) -> tuple[list[str], Iterator[Row]]:
     """Reads a table with a header: the names of its columns, and its rows.
 
     Cells stand apart by commas, semicolons or tabs, whichever the header has most of. The names of
-    columns are taken in lower case, with an underscore for a blank or a hyphen. Blank lines are
-    passed over.
+    columns are taken in lower case, with an underscore for a blank or a hyphen. Blank lines, and
+    lines that begin with #, are passed over.
 
     >>> columns, rows = read_table("From bus;To bus\\n1;2\\n")
     >>> columns, list(rows)
     (['from_bus', 'to_bus'], [Row(line=2, cells={'from_bus': '1', 'to_bus': '2'})])
     """
-    heading = next((line for line in text.split("\n") if line.strip()), None)
-    if heading is None:
-        raise TextError(Fault(0, "the text is empty"))
-    cells = _cells(text, max(",;\t", key=heading.count))
-    line, header = next(cells)
-    columns = ["_".join(name.lower().replace("-", " ").split()) for name in header]
-    for name in columns:
-        if columns.count(name) > 1:
+    lines = ["" if is_comment(line) else line for line in text.split("\n")]
+    heading = next((line for line in lines if line.strip()), "")
+    cells = _cells("\n".join(lines), max(",;\t", key=heading.count))
+    line, header = next(cells, (0, []))
+    if not header:
+        raise TextError(Fault(0, "the text has no header"))
+    columns = [column_name(name) for name in header]
+    for name, count in Counter(columns).items():
+        if name and count > 1:
             raise TextError(Fault(line, f"the header has the column {name!r} twice"))
     return columns, _rows(columns, line, cells)
 
 
+def is_comment(line: str) -> bool:
+    """Whether a line of a table is a comment.
+
+    >>> is_comment(" # 1,2"), is_comment("1,2 # 3")
+    (True, False)
+    """
+    return line.lstrip().startswith("#")
+
+
+def column_name(text: str) -> str:
+    """The name of a column as it is looked up.
+
+    >>> column_name("From bus"), column_name("to-bus")
+    ('from_bus', 'to_bus')
+    """
+    return "_".join(text.lower().replace("-", " ").split())
+
+
 def _cells(text: str, delimiter: str) -> Iterator[tuple[int, list[str]]]:
     """The lines of a table that are not blank, each with its number and its cells."""
-    reader = csv.reader(io.StringIO(text), delimiter=delimiter, strict=True)
+    reader = csv.reader(
+        io.StringIO(text), delimiter=delimiter, strict=True, skipinitialspace=True
+    )
     try:
         for row in reader:
             cells = [cell.strip() for cell in row]
