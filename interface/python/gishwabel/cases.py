@@ -39,8 +39,8 @@ class Branch(NamedTuple):
 class Case:
     """What a planner's file has: its buses by their names, in order, and the branches in service.
 
-    ``lines`` has for each bus its line in the text; ``notes`` say what was left out and why. A bus
-    without a need or weight has 1.
+    ``lines`` has for each bus its line in the text; ``notes`` say what was left out and why, and
+    ``isolated`` has the buses among that. A bus without a need or weight has 1.
     """
 
     kind: str
@@ -49,6 +49,7 @@ class Case:
     needs: dict[str, int] = field(default_factory=dict)
     weights: dict[str, int] = field(default_factory=dict)
     notes: list[str] = field(default_factory=list)
+    isolated: set[str] = field(default_factory=set)
 
     def leave_out(self, what: str, line: int, why: str) -> None:
         """Notes that something of the text is left out."""
@@ -93,10 +94,10 @@ def _parse_matpower(text: str, names: bool) -> Case:
     case = Case("MATPOWER case")
     tables = matpower.read(text, names)
     label_of = {bus.number: bus.name if names else str(bus.number) for bus in tables.buses}
-    isolated = {label_of[bus.number] for bus in tables.buses if bus.kind == matpower.ISOLATED}
     for bus in tables.buses:
         label = label_of[bus.number]
-        if label in isolated:
+        if bus.kind == matpower.ISOLATED:
+            case.isolated.add(label)
             case.leave_out(f"bus {label}", bus.line, "isolated, type 4")
         else:
             case.lines[label] = bus.line
@@ -104,7 +105,7 @@ def _parse_matpower(text: str, names: bool) -> Case:
         branch = Branch(label_of[found.first], label_of[found.second], found.line)
         if not found.in_service:
             case.leave_out(f"branch {branch}", branch.line, "out of service")
-        elif branch.first in isolated or branch.second in isolated:
+        elif case.isolated & {branch.first, branch.second}:
             case.leave_out(f"branch {branch}", branch.line, "it ends in an isolated bus, type 4")
         else:
             case.branches.append(branch)
@@ -230,6 +231,8 @@ def add_values(case: Case, text: str) -> None:
     faults: list[Fault] = []
     for row in rows:
         label = clean_label(row.cells["bus"], row.line)
+        if label in case.isolated:
+            continue  # it is left out already, and that was said
         if label not in case.lines:
             hint = similar(label, case.lines) if len(faults) < 3 else ""
             faults.append(Fault(row.line, f"the case has no bus {label!r}{hint}"))
