@@ -213,7 +213,11 @@ def _sheet(options: Namespace) -> int:
 
     def work(name: str, _: Progress) -> int:
         network = read_network(name, options.labels)
-        heading, *lines = network.sheet().decode().splitlines()
+        sheet = network.sheet().decode()
+        if not (options.labels or options.rank or options.csv):
+            print(sheet, end="")
+            return DONE
+        heading, *lines = sheet.splitlines()
         numerators, over = network.numerators()
         order = list(range(network.buses))
         if options.rank:
