@@ -98,8 +98,9 @@ def read_table(text: str) -> tuple[list[str], Iterator[Row]]:
     """Reads a table with a header: the names of its columns, and its rows.
 
     Cells stand apart by commas, semicolons or tabs, whichever the header has most of. The names of
-    columns are taken in lower case, with an underscore for a blank or a hyphen. Blank lines, and
-    lines that begin with #, are passed over.
+    columns are taken in lower case, with an underscore for a blank or a hyphen. Blank lines and
+    comments, which begin with #, are passed over; a row that begins so is a :class:`TextError`,
+    since it may be a comment or a name.
 
     >>> columns, rows = read_table("From bus;To bus\\n1;2\\n")
     >>> columns, list(rows)
@@ -107,7 +108,8 @@ def read_table(text: str) -> tuple[list[str], Iterator[Row]]:
     """
     lines = ["" if is_comment(line) else line for line in text.split("\n")]
     heading = next((line for line in lines if line.strip()), "")
-    cells = _cells("\n".join(lines), max(",;\t", key=heading.count))
+    delimiter = max(",;\t", key=heading.count)
+    cells = _cells("\n".join(lines), delimiter)
     line, header = next(cells, (0, []))
     if not header:
         raise TextError(Fault(0, "the text has no header"))
@@ -115,6 +117,10 @@ def read_table(text: str) -> tuple[list[str], Iterator[Row]]:
     for name, count in Counter(columns).items():
         if name and count > 1:
             raise TextError(Fault(line, f"the header has the column {name!r} twice"))
+    for number, row in enumerate(text.split("\n"), start=1):
+        if number > line and is_comment(row) and row.count(delimiter) + 1 >= len(columns):
+            words = "this row begins with #, as a comment or as a name: take it out, or rename"
+            raise TextError(Fault(number, words))
     return columns, _rows(columns, line, cells)
 
 
