@@ -192,7 +192,7 @@ def _import(options: Namespace) -> int:
             try:
                 cases.add_values(case, read_text(options.buses))
             except TextError as why:
-                raise TextError(*(Fault(0, f"{options.buses}: {x}") for x in why.faults)) from why
+                raise why.of(options.buses) from why
             except NotRun as why:
                 raise NotRun(f"{options.buses}: {why}") from why
         network, records, notes = cases.settle(case)
@@ -329,7 +329,7 @@ def _picture(options: Namespace) -> int:
     def work(name: str, progress: Progress) -> int:
         network = read_network(name, _labelled(options))
         path = place_for(name, options.out, ".svg", options.files)
-        check_places([path], options.files)
+        check_places([path], [*options.files, *map(str, map(labels.beside, options.files))])
         numerators, over = network.numerators()
         line = None if options.outage is None else _line(network, options.outage)
         changes = None if line is None else network.outage(line).changes

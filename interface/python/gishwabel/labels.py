@@ -67,7 +67,7 @@ def attach(network: Network, table: Path) -> None:
     try:
         network.label(parse(data, network.file, network.buses))
     except TextError as why:
-        raise TextError(*(Fault(0, f"{table}: {fault}") for fault in why.faults)) from why
+        raise why.of(table) from why
 
 
 def encode(name: str, file: bytes, labels: Sequence[str]) -> bytes:

@@ -35,6 +35,10 @@ class TextError(ValueError):
     def __str__(self) -> str:
         return "; ".join(str(fault) for fault in self.faults)
 
+    def of(self, name: object) -> TextError:
+        """The same faults, told with the name of the text that they are in."""
+        return TextError(*(Fault(0, f"{name}: {fault}") for fault in self.faults))
+
 
 def decode(data: bytes) -> str:
     """The text that bytes stand for: UTF-8, or UTF-16 with a mark; lines end in a newline alone.
