@@ -16,10 +16,11 @@ import sys
 STD = set("add sub mul div mod rem pow zero one suc pred le lt eq ne min max or and not if true false cond nil cons append take drop length map "
           "filter reverse sum get get_or set eqb leb ltb range indicator".split())
 WORD = r"[^\s(){}\[\].;,@\"«»`:]+"
-SIG = re.compile(r"^(?P<pre>(?:(?:pub|abbrev|unfoldable) )*)(?P<n>[^\s:(){}]+) : ")
+SIG = re.compile(r"^ *(?P<pre>(?:(?:pub|abbrev|unfoldable) )*)(?P<n>[^\s:(){}]+) : ")
 
 # Where the rule would give two names one spelling, or the name of something else in scope.
-BY_HAND = {"in-range": "in_range_lem", "needs-in-range": "needs_in_range_lem", "stored-changes": "stored_changes_lem", "taken_out": "taken_out_lem", "too-high": "too_high_lem"}
+BY_HAND = {"in-range": "in_range_lem", "needs-in-range": "needs_in_range_lem", "stored-changes": "stored_changes_lem", "taken_out": "taken_out_lem", "too-high": "too_high_lem", "is-added": "is_added_lem",
+           "need-above-degree": "need_above_degree_lem", "sound-ends": "sound_ends_lem", "two-way": "two_way_lem"}
 
 
 def files():

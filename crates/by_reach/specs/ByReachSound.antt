@@ -8,11 +8,11 @@ use Rattle.lists.specs.SumsBelow.{in_range_lem, of_range}
 use Rattle.lists.specs.JoinBelow.{in_map_below, of_map_below}
 use Rattle.fraction.specs.Lcm.{lcm_all_multiple}
 use Rattle.game.specs.CrowdGame.{Crowds}
-use Rattle.game.specs.Reach.{reach-on, reach-common}
+use Rattle.game.specs.Reach.{reach_on, reach_common}
 use Rattle.table_spec.specs.Limits.{max_degree}
 use Rattle.share_spec.specs.Network.{Sound}
 use Rattle.share_spec.specs.FairFormula.{watching_converse}
-use Rattle.share_spec.specs.Denominator.{multiple-pos}
+use Rattle.share_spec.specs.Denominator.{multiple_pos}
 use Rattle.by_reach.specs.ByReach.{by_reach}
 
 module _ (held : Bool) (n m : ℕ) (reaches degrees : ℕ → ℕ) (crowd : ℕ → List ℕ) (w : Crowds (range n) crowd)
@@ -25,7 +25,7 @@ module _ (held : Bool) (n m : ℕ) (reaches degrees : ℕ → ℕ) (crowd : ℕ 
 
   pub sound : Sound (by_reach held n m reaches degrees crowd)
   sound = record {
-    watching = watching_converse (by_reach held n m reaches degrees crowd) refl (reach-on (range n) crowd (λ u. 1) w);
-    positive = multiple-pos _ sizes;
-    whole = reach-common (range n) crowd (λ u. 1) w _ (λ u i. lcm_all_multiple _ _ (in_map_below (λ u. length (crowd u)) n (of_range u n i)));
+    watching = watching_converse (by_reach held n m reaches degrees crowd) refl (reach_on (range n) crowd (λ u. 1) w);
+    positive = multiple_pos _ sizes;
+    whole = reach_common (range n) crowd (λ u. 1) w _ (λ u i. lcm_all_multiple _ _ (in_map_below (λ u. length (crowd u)) n (of_range u n i)));
   }

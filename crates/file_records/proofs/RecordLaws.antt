@@ -13,11 +13,11 @@ use Rattle.lists.specs.Loops.{tabled_more}
 use Rattle.lists.specs.JoinBelow.{length-join_below}
 use Rattle.table_spec.specs.Limits.{max_buses}
 use Rattle.row_builder.specs.GrowingRows.{AllZero, GrowingRows}
-use Rattle.row_builder.specs.GrowingLaws.{length_grown, growing-same, growing-fits, growing-next}
+use Rattle.row_builder.specs.GrowingLaws.{length_grown, growing_same, growing_fits, growing_next}
 use Rattle.file_spec.specs.FileBytes.{first_end, second_end}
 use Rattle.file_spec.specs.Records.{neighbours, repeats}
 use Rattle.file_spec.specs.RecordPairs.{neighbours-none, neighbours-le, neighbours_again, neighbours_grows}
-use Rattle.file_spec.specs.OrderedRecords.{OrderedRecords, rows-le, repeats_by, repeats-facts, rows_grow}
+use Rattle.file_spec.specs.OrderedRecords.{OrderedRecords, rows-le, repeats_by, repeats_facts, rows_grow}
 use Rattle.file_records.specs.RecordSteps.{equals_last, NeighbourCounts}
 
 -- without records every count is 0
@@ -50,36 +50,36 @@ module _ {n m : ℕ} {r : List ℕ} (g : OrderedRecords n m r) {k : ℕ} (l : k 
       (λ t. let u = ltb-true 0 k (and_left (ltb 0 k) (eqb a x && eqb c y) t) in
       let v = and_right (ltb 0 k) (eqb a x && eqb c y) t in
       repeats_by r (k - 1) k (omega arith) (sym (eqb-true a x (and_left (eqb a x) (eqb c y) v))) (sym (eqb-true c y (and_right (eqb a x) (eqb c y) v))))
-      (λ t. let w = repeats-facts g k l t in rw (lt-ltb 0 k w.0, eq-eqb a x (sym w.1), eq-eqb c y (sym w.2)))
+      (λ t. let w = repeats_facts g k l t in rw (lt-ltb 0 k w.0, eq-eqb a x (sym w.1), eq-eqb c y (sym w.2)))
 
   -- its ends were read into a and c; where it names a new pair they get one another
   module _ {a c : ℕ} (e : (a ≡ first_end r k) × (c ≡ second_end r k)) where
-    pub first-bus : a < n
-    first-bus = omega (arith, e.0, (g.ends k l).0)
+    pub first_bus : a < n
+    first_bus = omega (arith, e.0, (g.ends k l).0)
 
-    pub second-bus : c < n
-    second-bus = omega (arith, e.1, (g.ends k l).1)
+    pub second_bus : c < n
+    second_bus = omega (arith, e.1, (g.ends k l).1)
 
     module _ (new : repeats r k ≡ false) where
       -- the row of the first has grown, and not yet that of the second
-      abbrev pub rowsHalf : ℕ → List ℕ
-      rowsHalf i = cond (eqb a i) (neighbours n k r i ++ (c ∷ [])) (neighbours n k r i)
+      abbrev pub rows_half : ℕ → List ℕ
+      rows_half i = cond (eqb a i) (neighbours n k r i ++ (c ∷ [])) (neighbours n k r i)
 
-      rows_both : (i : ℕ) → cond (eqb c i) (rowsHalf i ++ (a ∷ [])) (rowsHalf i) ≡ neighbours n (k + 1) r i
+      rows_both : (i : ℕ) → cond (eqb c i) (rows_half i ++ (a ∷ [])) (rows_half i) ≡ neighbours n (k + 1) r i
       rows_both i = rw (e.0, e.1) (rows_grow g k l new i)
 
-      neighbours-more : (i : ℕ) → length (neighbours n (k + 1) r i) ≡ length (neighbours n k r i) + indicator (eqb a i) + indicator (eqb c i)
-      neighbours-more i =
-          sym (ap length (rows_both i)) ∙ length_grown (eqb c i) (rowsHalf i) a ∙ ap (λ s. s + indicator (eqb c i)) (length_grown (eqb a i) (neighbours n k r i) c)
+      neighbours_more : (i : ℕ) → length (neighbours n (k + 1) r i) ≡ length (neighbours n k r i) + indicator (eqb a i) + indicator (eqb c i)
+      neighbours_more i =
+          sym (ap length (rows_both i)) ∙ length_grown (eqb c i) (rows_half i) a ∙ ap (λ s. s + indicator (eqb c i)) (length_grown (eqb a i) (neighbours n k r i) c)
 
       -- each count goes up by one
       module _ {counts counts₁ : List ℕ} (w : NeighbourCounts n k r counts) (p : counts₁ ≡ set counts a (at counts a + 1)) where
         first_counted : Tabled n (λ i. length (neighbours n k r i) + indicator (eqb a i)) counts₁
         first_counted i b =
-            ap (λ t. at t i) p ∙ tabled_more (λ i. length (neighbours n k r i)) n counts a w.each first-bus (omega (arith, w.size, first-bus, g.buses)) i b
+            ap (λ t. at t i) p ∙ tabled_more (λ i. length (neighbours n k r i)) n counts a w.each first_bus (omega (arith, w.size, first_bus, g.buses)) i b
 
-        pub second-count-le : at counts₁ c ≤ n
-        second-count-le = omega (arith, first_counted c second-bus, neighbours-more c, neighbours-le n (k + 1) r c)
+        pub second_count-le : at counts₁ c ≤ n
+        second_count-le = omega (arith, first_counted c second_bus, neighbours_more c, neighbours-le n (k + 1) r c)
 
         pub counts-next : {counts₂ : List ℕ} → counts₂ ≡ set counts₁ c (at counts₁ c + 1) → NeighbourCounts n (k + 1) r counts₂
         counts-next q =
@@ -88,36 +88,36 @@ module _ {n m : ℕ} {r : List ℕ} (g : OrderedRecords n m r) {k : ℕ} (l : k 
               size = ap length q ∙ length-set counts₁ c _ ∙ s;
               each = λ i b.
                   ap (λ t. at t i) q
-                  ∙ tabled_more (λ i. length (neighbours n k r i) + indicator (eqb a i)) n counts₁ c first_counted second-bus (omega (arith, s, second-bus, g.buses)) i b
-                  ∙ sym (neighbours-more i);
+                  ∙ tabled_more (λ i. length (neighbours n k r i) + indicator (eqb a i)) n counts₁ c first_counted second_bus (omega (arith, s, second_bus, g.buses)) i b
+                  ∙ sym (neighbours_more i);
             }
 
       -- each row goes on
       abbrev sizes : ℕ → ℕ
       sizes i = length (neighbours n m r i)
 
-      more-le : (i : ℕ) → length (neighbours n k r i) + indicator (eqb a i) + indicator (eqb c i) ≤ sizes i
-      more-le i = omega (arith, neighbours-more i, neighbours_grows n (k + 1) m r i (omega arith))
+      more_le : (i : ℕ) → length (neighbours n k r i) + indicator (eqb a i) + indicator (eqb c i) ≤ sizes i
+      more_le i = omega (arith, neighbours_more i, neighbours_grows n (k + 1) m r i (omega arith))
 
       first_short : length (neighbours n k r a) < sizes a
-      first_short = omega (arith, more-le a, ap indicator (eqb_self a))
+      first_short = omega (arith, more_le a, ap indicator (eqb_self a))
 
-      half_le : (i : ℕ) → length (rowsHalf i) + indicator (eqb c i) ≤ sizes i
-      half_le i = omega (arith, more-le i, length_grown (eqb a i) (neighbours n k r i) c)
+      half_le : (i : ℕ) → length (rows_half i) + indicator (eqb c i) ≤ sizes i
+      half_le i = omega (arith, more_le i, length_grown (eqb a i) (neighbours n k r i) c)
 
-      second_short : length (rowsHalf c) < sizes c
+      second_short : length (rows_half c) < sizes c
       second_short = omega (arith, half_le c, ap indicator (eqb_self c))
 
       module _ {next all : List ℕ} (w : GrowingRows n sizes (neighbours n k r) next all) where
         pub first_fits : (at next a < length all) × (at next a < 65535)
-        first_fits = let f = growing-fits w first-bus first_short in (f, omega (arith, f, room g w))
+        first_fits = let f = growing_fits w first_bus first_short in (f, omega (arith, f, room g w))
 
-        pub first-grown : {next₁ all₁ : List ℕ} → all₁ ≡ set all (at next a) c → next₁ ≡ set next a (at next a + 1) → GrowingRows n sizes rowsHalf next₁ all₁
-        first-grown = growing-next w a c first-bus g.buses first_short (λ i b. omega (arith, more-le i))
+        pub first-grown : {next₁ all₁ : List ℕ} → all₁ ≡ set all (at next a) c → next₁ ≡ set next a (at next a + 1) → GrowingRows n sizes rows_half next₁ all₁
+        first-grown = growing_next w a c first_bus g.buses first_short (λ i b. omega (arith, more_le i))
 
-      module _ {next all : List ℕ} (w : GrowingRows n sizes rowsHalf next all) where
+      module _ {next all : List ℕ} (w : GrowingRows n sizes rows_half next all) where
         pub second_fits : (at next c < length all) × (at next c < 65535)
-        second_fits = let f = growing-fits w second-bus second_short in (f, omega (arith, f, room g w))
+        second_fits = let f = growing_fits w second_bus second_short in (f, omega (arith, f, room g w))
 
-        pub second-grown : {next₁ all₁ : List ℕ} → all₁ ≡ set all (at next c) a → next₁ ≡ set next c (at next c + 1) → GrowingRows n sizes (neighbours n (k + 1) r) next₁ all₁
-        second-grown p q = growing-same (growing-next w c a second-bus g.buses second_short (λ i b. omega (arith, half_le i)) p q) (neighbours n (k + 1) r) (λ i b. rows_both i)
+        pub second_grown : {next₁ all₁ : List ℕ} → all₁ ≡ set all (at next c) a → next₁ ≡ set next c (at next c + 1) → GrowingRows n sizes (neighbours n (k + 1) r) next₁ all₁
+        second_grown p q = growing_same (growing_next w c a second_bus g.buses second_short (λ i b. omega (arith, half_le i)) p q) (neighbours n (k + 1) r) (λ i b. rows_both i)

@@ -8,7 +8,7 @@ use Rattle.lists.specs.Lists.{at, put}
 use Rattle.lists.specs.Below.{sum_below, join_below, map_below}
 use Rattle.lists.specs.SumsBelow.{sum_below-same}
 use Rattle.lists.specs.JoinBelow.{length-join_below, length-map_below, map_below-same}
-use Rattle.lists.specs.Writes.{stored-list}
+use Rattle.lists.specs.Writes.{stored_list}
 use Rattle.table_spec.specs.Limits.{max_lines}
 use Rattle.table_spec.specs.Layout.{laid}
 use Rattle.table_spec.specs.Laid.{length-laid}
@@ -37,8 +37,8 @@ module _ {n m : ℕ} {r counts : List ℕ} (w : NeighbourCounts n m r counts) wh
   laid-counted = omega (arith, length-laid rows n, numbers-counted)
 
   -- rows of which nothing is filled yet
-  pub growing-start : {next all : List ℕ} → RowStarts n counts next → length all ≡ sum_below n (at counts) → GrowingRows n (λ i. length (rows i)) (λ i. []) next all
-  growing-start s e = growing_none n (λ i. length (rows i)) s.size (e ∙ counted n (omega arith)) (λ i b. s.each i b ∙ counted i (omega arith))
+  pub growing_start : {next all : List ℕ} → RowStarts n counts next → length all ≡ sum_below n (at counts) → GrowingRows n (λ i. length (rows i)) (λ i. []) next all
+  growing_start s e = growing_none n (λ i. length (rows i)) s.size (e ∙ counted n (omega arith)) (λ i b. s.each i b ∙ counted i (omega arith))
 
   -- the starts were stored from a place on, and the rows behind them
   pub laid-stored : (t : List ℕ) (from : ℕ) {t₁ t₂ : List ℕ} → from ≤ length t → t₁ ≡ put t from (map_below (n + 1) (λ i. sum_below i (at counts)))
@@ -46,4 +46,4 @@ module _ {n m : ℕ} {r counts : List ℕ} (w : NeighbourCounts n m r counts) wh
   unfolding laid
   laid-stored t from l p q =
       let e = map_below-same (λ i. sum_below i (at counts)) (λ i. length (join_below i rows)) (n + 1) (λ i b. counted i (omega arith) ∙ sym (length-join_below i rows)) in
-      q ∙ stored-list t from _ p (omega (arith, length-map_below (n + 1) (λ i. sum_below i (at counts)))) (join_below n rows) l ∙ ap (λ s. put t from (s ++ join_below n rows)) e
+      q ∙ stored_list t from _ p (omega (arith, length-map_below (n + 1) (λ i. sum_below i (at counts)))) (join_below n rows) l ∙ ap (λ s. put t from (s ++ join_below n rows)) e

@@ -7,7 +7,7 @@ use Rattle.std.proofs.Math.Logic.{⊎_elim}
 use borrow.Author.Tests.{ltb-true, ltb-false, eqb-true, eqb-false, ne_eqb, lt-ltb, le-ltb}
 use Rattle.lists.specs.Below.{join_below}
 use Rattle.lists.specs.Tests.{split, never_both, or-none, eqb_self, eqb_comm}
-use Rattle.lists.specs.Loops.{last_or, anyBelow-none, anyBelow-fails}
+use Rattle.lists.specs.Loops.{last_or, any_below-none, any_below_fails}
 use Rattle.lists.specs.ListBelow.{list_below-same, list_below_more}
 use Rattle.table_spec.specs.Limits.{max_buses, max_lines}
 use Rattle.table_spec.specs.Lines.{pair_number}
@@ -42,7 +42,7 @@ pub order_test : (m : ℕ) (r : List ℕ) → ((k : ℕ) → k < m → (first_en
     → ((j k : ℕ) → j < k → k < m → pair_number (first_end r j) (second_end r j) ≤ pair_number (first_end r k) (second_end r k)) → out_of_order m r ≡ false
 unfolding out_of_order turned falls
 order_test m r lower grows =
-    anyBelow-fails (λ k. turned r k || falls r k) m λ k l.
+    any_below_fails (λ k. turned r k || falls r k) m λ k l.
     let up = lower k l in
     rw (le-ltb (second_end r k) (first_end r k) (omega (arith, up.0)))
     (split (ltb 0 k)
@@ -63,10 +63,10 @@ module _ {n m : ℕ} {r : List ℕ} (g : OrderedRecords n m r) where
   rows-le = omega (arith, rows-length n m r g.ends, pair_count-le m r, g.lines)
 
   -- the lower bus stands first
-  pub lower-first : (k : ℕ) → k < m → first_end r k < second_end r k
+  pub lower_first : (k : ℕ) → k < m → first_end r k < second_end r k
   unfolding out_of_order turned
-  lower-first k l =
-      let z = or-none (turned r k) (falls r k) (anyBelow-none (λ k. turned r k || falls r k) m g.order l) in
+  lower_first k l =
+      let z = or-none (turned r k) (falls r k) (any_below-none (λ k. turned r k || falls r k) m g.order l) in
       let d : first_end r k ≡ second_end r k → ⊥ = (g.ends k l).2 in
       omega (arith, d, ltb-false (second_end r k) (first_end r k) z.0)
 
@@ -74,24 +74,24 @@ module _ {n m : ℕ} {r : List ℕ} (g : OrderedRecords n m r) where
   rank : ℕ → ℕ
   rank k = pair_number (first_end r k) (second_end r k)
 
-  rank-next : (k : ℕ) → 0 < k → k < m → rank (k - 1) ≤ rank k
+  rank_next : (k : ℕ) → 0 < k → k < m → rank (k - 1) ≤ rank k
   unfolding out_of_order falls rank
-  rank-next k l b =
-      let z = or-none (turned r k) (falls r k) (anyBelow-none (λ k. turned r k || falls r k) m g.order b) in
+  rank_next k l b =
+      let z = or-none (turned r k) (falls r k) (any_below-none (λ k. turned r k || falls r k) m g.order b) in
       pair_facts _ _ _ _ (omega (arith, (g.ends (k - 1) (omega arith)).1, g.buses)) (rw (lt-ltb 0 k l) at z.1)
 
-  rank-grows : (i k : ℕ) → i ≤ k → k < m → rank i ≤ rank k
-  rank-grows i zero l b = let e : i ≡ 0 = omega arith in rw e (omega arith)
-  rank-grows i (suc k) l b =
+  rank_grows : (i k : ℕ) → i ≤ k → k < m → rank i ≤ rank k
+  rank_grows i zero l b = let e : i ≡ 0 = omega arith in rw e (omega arith)
+  rank_grows i (suc k) l b =
       let h : i < suc (suc k) = omega arith in
       let e : suc k - 1 ≡ k = omega arith in
-      ⊎_elim (λ q. rw q (omega arith)) (λ j. omega (arith, rank-grows i k (omega arith) (omega arith), rw e at (rank-next (suc k) (omega arith) b))) (last_or h)
+      ⊎_elim (λ q. rw q (omega arith)) (λ j. omega (arith, rank_grows i k (omega arith) (omega arith), rw e at (rank_next (suc k) (omega arith) b))) (last_or h)
 
   -- and rise where no pair is named again
   pub rank_rises : (i k : ℕ) → i < k → k < m → repeats r k ≡ false → pair_number (first_end r i) (second_end r i) < pair_number (first_end r k) (second_end r k)
   unfolding rank
   rank_rises i k l b new =
-      let h = rank-grows i k (omega arith) b in
+      let h = rank_grows i k (omega arith) b in
       let x = (g.ends i (omega arith)).1 in
       let y = (g.ends k b).1 in
       let d : rank i ≡ rank k → ⊥ = λ e. never_both (repeats_by r i k l (omega (arith, e, x, y, g.buses)) (omega (arith, e, x, y, g.buses))) new in
@@ -104,17 +104,17 @@ module _ {n m : ℕ} {r : List ℕ} (g : OrderedRecords n m r) where
       let w = joined_at k r (first_end r k) (second_end r k) h in
       ⊎_elim
       (λ t. (w.0, w.1, t.0, t.1))
-      (λ t. absurd (omega (arith, t.0, t.1, lower-first w.0 (omega (arith, w.1)), lower-first k b)))
+      (λ t. absurd (omega (arith, t.0, t.1, lower_first w.0 (omega (arith, w.1)), lower_first k b)))
       w.2
 
   -- and so has the one before it
-  pub repeats-facts : (k : ℕ) → k < m → repeats r k ≡ true → (0 < k) × (first_end r (k - 1) ≡ first_end r k) × (second_end r (k - 1) ≡ second_end r k)
+  pub repeats_facts : (k : ℕ) → k < m → repeats r k ≡ true → (0 < k) × (first_end r (k - 1) ≡ first_end r k) × (second_end r (k - 1) ≡ second_end r k)
   unfolding rank
-  repeats-facts k b h =
+  repeats_facts k b h =
       let w = earlier k b h in
       let i = w.0 in
-      let low = rank-grows i (k - 1) (omega (arith, w.1)) (omega arith) in
-      let high = rank-grows (k - 1) k (omega arith) b in
+      let low = rank_grows i (k - 1) (omega (arith, w.1)) (omega arith) in
+      let high = rank_grows (k - 1) k (omega arith) b in
       let y = (g.ends (k - 1) (omega arith)).1 in
       let z = (g.ends k b).1 in
       (omega (arith, w.1), omega (arith, low, high, w.2, w.3, y, z, g.buses), omega (arith, low, high, w.2, w.3, y, z, g.buses))
@@ -128,25 +128,25 @@ module _ {n m : ℕ} {r : List ℕ} (g : OrderedRecords n m r) where
     c = second_end r k
 
     -- the neighbours that earlier records give its first bus are below its second
-    first-low : (j : ℕ) → joined k r a j ≡ true → j < c
-    first-low j h =
+    first_low : (j : ℕ) → joined k r a j ≡ true → j < c
+    first_low j h =
         let w = joined_at k r a j h in
         let p = rank_rises w.0 k w.1 b new in
         let x = (g.ends w.0 (omega (arith, w.1))).1 in
         let y = (g.ends k b).1 in
-        ⊎_elim (λ t. omega (arith, t.0, t.1, p)) (λ t. omega (arith, t.0, p, x, y, g.buses, lower-first k b)) w.2
+        ⊎_elim (λ t. omega (arith, t.0, t.1, p)) (λ t. omega (arith, t.0, p, x, y, g.buses, lower_first k b)) w.2
 
     -- and those that they give its second are below its first
-    second-low : (j : ℕ) → joined k r c j ≡ true → j < a
-    second-low j h =
+    second_low : (j : ℕ) → joined k r c j ≡ true → j < a
+    second_low j h =
         let w = joined_at k r c j h in
         let p = rank_rises w.0 k w.1 b new in
         let x = (g.ends w.0 (omega (arith, w.1))).1 in
         let y = (g.ends k b).1 in
-        ⊎_elim (λ t. absurd (omega (arith, t.0, p, x, y, g.buses, lower-first k b))) (λ t. omega (arith, t.0, t.1, p)) w.2
+        ⊎_elim (λ t. absurd (omega (arith, t.0, p, x, y, g.buses, lower_first k b))) (λ t. omega (arith, t.0, t.1, p)) w.2
 
     apart : eqb c a ≡ false
-    apart = ne_eqb c a (omega (arith, lower-first k b))
+    apart = ne_eqb c a (omega (arith, lower_first k b))
 
     -- so that each of the two goes behind the other's neighbours, and no other row changes
     first-row : neighbours n (k + 1) r a ≡ neighbours n k r a ++ (c ∷ [])
@@ -154,14 +154,14 @@ module _ {n m : ℕ} {r : List ℕ} (g : OrderedRecords n m r) where
     first-row =
         neighbours-next n k r a
         ∙ list_below-same _ _ n (λ j l. rw (eqb_self a, apart, and-false (eqb a j), or-false (eqb c j)))
-        ∙ list_below_more (joined k r a) c n (g.ends k b).1 (λ j l. first-low j)
+        ∙ list_below_more (joined k r a) c n (g.ends k b).1 (λ j l. first_low j)
 
-    second-row : neighbours n (k + 1) r c ≡ neighbours n k r c ++ (a ∷ [])
+    second_row : neighbours n (k + 1) r c ≡ neighbours n k r c ++ (a ∷ [])
     unfolding neighbours joins
-    second-row =
+    second_row =
         neighbours-next n k r c
         ∙ list_below-same _ _ n (λ j l. rw (eqb_comm a c, apart, eqb_self c, and-true (eqb a j)))
-        ∙ list_below_more (joined k r c) a n (g.ends k b).0 (λ j l. second-low j)
+        ∙ list_below_more (joined k r c) a n (g.ends k b).0 (λ j l. second_low j)
 
     other_row : (i : ℕ) → eqb a i ≡ false → eqb c i ≡ false → neighbours n (k + 1) r i ≡ neighbours n k r i
     unfolding neighbours joins
@@ -173,5 +173,5 @@ module _ {n m : ℕ} {r : List ℕ} (g : OrderedRecords n m r) where
         split (eqb a i)
         (λ e. let q : a ≡ i = eqb-true a i e in rw (← q) (rw (eqb_self a, apart) (sym first-row)))
         (λ e. split (eqb c i)
-        (λ f. let q : c ≡ i = eqb-true c i f in rw (e, f) (rw (← q) (sym second-row)))
+        (λ f. let q : c ≡ i = eqb-true c i f in rw (e, f) (rw (← q) (sym second_row)))
         (λ f. rw (e, f) (sym (other_row i e f))))

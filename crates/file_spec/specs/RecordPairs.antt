@@ -9,7 +9,7 @@ use Rattle.lists.specs.Lists.{indicator}
 use Rattle.lists.specs.Below.{any_below, sum_below, count_below, join_below, list_below}
 use Rattle.lists.specs.Tests.{split, and_left, and_right, or_cases}
 use Rattle.lists.specs.Sums.{indicator_grows, indicator-or}
-use Rattle.lists.specs.Loops.{anyBelow-at, anyBelow-by, any_below-next, sum_below-next}
+use Rattle.lists.specs.Loops.{any_below-at, any_below_by, any_below-next, sum_below-next}
 use Rattle.lists.specs.SumsBelow.{sum_below-same, sum_below-add, sum_below-le, sum_below_const, count_below-le, count_below-one}
 use Rattle.lists.specs.JoinBelow.{length-join_below}
 use Rattle.lists.specs.ListBelow.{length-list_below, list_below-same, list_below-none}
@@ -44,12 +44,12 @@ joins_facts r i j k h =
 -- where i and j are joined, by such a record
 pub joined_at : (m : ℕ) (r : List ℕ) (i j : ℕ) → joined m r i j ≡ true → (k : ℕ) × (k < m) × EndsAre r i j k
 unfolding joined
-joined_at m r i j h = let w = anyBelow-at (joins r i j) m h in (w.0, w.1, joins_facts r i j w.0 w.2)
+joined_at m r i j h = let w = any_below-at (joins r i j) m h in (w.0, w.1, joins_facts r i j w.0 w.2)
 
 -- and a record with these ends joins them
 pub joined_by : (m : ℕ) (r : List ℕ) (i j k : ℕ) → k < m → first_end r k ≡ i → second_end r k ≡ j → joined m r i j ≡ true
 unfolding joined joins
-joined_by m r i j k l e f = anyBelow-by (joins r i j) m k l (rw (eq-eqb (first_end r k) i e, eq-eqb (second_end r k) j f))
+joined_by m r i j k l e f = any_below_by (joins r i j) m k l (rw (eq-eqb (first_end r k) i e, eq-eqb (second_end r k) j f))
 
 -- a pair that record k joins is the record's own pair
 joins-own : (r : List ℕ) (i j k : ℕ) → joins r i j k ≡ true → joined k r i j ≡ repeats r k
@@ -92,7 +92,7 @@ neighbours_grows n k m r i l =
       length-list_below n (joined k r i),
       length-list_below n (joined m r i),
       sum_below-le (λ j. indicator (joined k r i j)) (λ j. indicator (joined m r i j)) n λ j b.
-          indicator_grows (joined k r i j) (joined m r i j) (λ h. let w = anyBelow-at (joins r i j) k h in anyBelow-by (joins r i j) m w.0 (omega (arith, w.1)) w.2),
+          indicator_grows (joined k r i j) (joined m r i j) (λ h. let w = any_below-at (joins r i j) k h in any_below_by (joins r i j) m w.0 (omega (arith, w.1)) w.2),
     )
 
 -- ---- how many different pairs there are
@@ -124,8 +124,8 @@ module _ (a b : ℕ) (apart : a ≡ b → ⊥) (n : ℕ) (la : a < n) (lb : b < 
       never : (j : ℕ) → (eqb a j && eqb b i) ≡ true → (eqb a i && eqb b j) ≡ false
       never j e = ap (λ t. t && eqb b j) (ne_eqb a i (λ q. apart (q ∙ sym (eqb-true b i (and_right (eqb a j) (eqb b i) e)))))
 
-  joined-twice : sum_below n (λ i. count_below n (λ j. (eqb a i && eqb b j) || (eqb a j && eqb b i))) ≡ 2
-  joined-twice =
+  joined_twice : sum_below n (λ i. count_below n (λ j. (eqb a i && eqb b j) || (eqb a j && eqb b i))) ≡ 2
+  joined_twice =
       sum_below-same _ _ n (λ i l. joined_to i)
       ∙ sum_below-add (λ i. indicator (eqb a i)) (λ i. indicator (eqb b i)) n
       ∙ ap₂ ◌+◌ (count_below-one a n la) (count_below-one b n lb)
@@ -148,7 +148,7 @@ module _ (n m : ℕ) (r : List ℕ) (ends : SoundEnds n m r) where
       (λ i b. sum_below-same _ _ n (λ j c. indicator-or (joined k r i j) (joins r i j k) (λ t. joins-own r i j k t ∙ h))
       ∙ sum_below-add (λ j. indicator (joined k r i j)) (λ j. indicator (joins r i j k)) n)
       ∙ sum_below-add (λ i. count_below n (joined k r i)) (λ i. count_below n (λ j. joins r i j k)) n
-      ∙ ap (λ s. numbers k + s) (joined-twice (first_end r k) (second_end r k) e.2 n e.0 e.1)))
+      ∙ ap (λ s. numbers k + s) (joined_twice (first_end r k) (second_end r k) e.2 n e.0 e.1)))
 
   numbers-pairs : (k : ℕ) → k ≤ m → numbers k ≡ 2 * pair_count k r
   unfolding numbers joined any_below sum_below pair_count

@@ -4,7 +4,7 @@ use Rattle.std.proofs.Math.Path.{ap, ap₂}
 use Rattle.std.proofs.Common.{◌∙◌, arith, eq-eqb, ne_eqb, length-take, length-drop}
 use Rattle.lists.specs.Lists.{at, part}
 use Rattle.lists.specs.Below.{all_below, map_below}
-use Rattle.lists.specs.Loops.{allBelow-by, all_below-same}
+use Rattle.lists.specs.Loops.{all_below_by, all_below-same}
 use Rattle.lists.specs.Places.{length_part}
 use Rattle.lists.specs.JoinBelow.{length-map_below, map_below-at}
 use Rattle.table_spec.specs.Limits.{max_weight}
@@ -29,8 +29,8 @@ module _ (b : List ℕ) where
       ∙ all_below-same _ _ n (λ i l. ap (within 1 max_weight) (map_below-at (weight_in b) n l))
 
   -- as they are where there are no bytes
-  pub ones-range : length b ≡ 0 → (n : ℕ) → weights_in_range (map_below n (weight_in b)) ≡ true
-  ones-range e n = weights-range n ∙ allBelow-by _ n (λ i l. rw (weight-none e i) (within_test 1 max_weight 1 (omega arith) (omega arith)))
+  pub ones_range : length b ≡ 0 → (n : ℕ) → weights_in_range (map_below n (weight_in b)) ≡ true
+  ones_range e n = weights-range n ∙ all_below_by _ n (λ i l. rw (weight-none e i) (within_test 1 max_weight 1 (omega arith) (omega arith)))
 
 no_entries : (l : List ℕ) → length l ≡ 0 → l ≡ []
 no_entries [] e = refl
@@ -38,13 +38,13 @@ no_entries (x ∷ l) e = absurd (omega arith)
 
 -- how many bytes a file has for them
 module _ (f : List ℕ) where
-  pub weightBytes-none : length f ≤ weights_at f → weight_bytes f ≡ []
+  pub weight_bytes-none : length f ≤ weights_at f → weight_bytes f ≡ []
   unfolding weight_bytes
-  weightBytes-none h = no_entries _ (simp (length-take, length-drop) (omega arith))
+  weight_bytes-none h = no_entries _ (simp (length-take, length-drop) (omega arith))
 
-  pub length-weightBytes : weights_end f ≤ length f → length (weight_bytes f) ≡ 2 * file_bus_count f
+  pub length-weight_bytes : weights_end f ≤ length f → length (weight_bytes f) ≡ 2 * file_bus_count f
   unfolding weight_bytes
-  length-weightBytes h = omega (arith, length_part (weights_at f) (weights_end f) f h)
+  length-weight_bytes h = omega (arith, length_part (weights_at f) (weights_end f) f h)
 
   -- and what they are, as code reads them: the bus count into n and the place where the records end into e
   pub weights_read : {n e : ℕ} → n ≡ file_bus_count f → e ≡ records_end f → map_below n (weight_in (part (e + 2) (e + 2 + 2 * n) f)) ≡ file_weights f

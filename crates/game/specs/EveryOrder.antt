@@ -4,7 +4,7 @@ use Rattle.std.proofs.Common.{⊎_elim, sym, ap, ap₂, ◌∙◌, subst, zero-a
 use Rattle.lists.specs.Lists.{indicator, count, ◌∈◌, has, Once}
 use Rattle.lists.specs.Below.{range}
 use Rattle.lists.specs.Tests.{split, passes, eqb_self, eqb_comm}
-use Rattle.lists.specs.Sums.{sumBy-ones}
+use Rattle.lists.specs.Sums.{sum_by_ones}
 use Rattle.lists.specs.Counts.{in_has, in_first}
 use Rattle.lists.specs.SumsBelow.{count-range, range_once}
 use Rattle.lists.specs.JoinBelow.{length-range}
@@ -21,7 +21,7 @@ over_orders-one [] = refl
 over_orders-one (x ∷ xs) = over_orders_ignores x xs (λ l. 1) (λ p s. refl) ∙ ap (λ n. suc (length xs) * n) (over_orders-one xs)
 
 how_many : (xs : List ℕ) → length (orders xs) ≡ factorial (length xs)
-how_many xs = sym (sumBy-ones (orders xs)) ∙ sum-orders xs (λ l. 1) ∙ over_orders-one xs
+how_many xs = sym (sum_by_ones (orders xs)) ∙ sum-orders xs (λ l. 1) ∙ over_orders-one xs
 
 -- ---- what stands among them is an order
 

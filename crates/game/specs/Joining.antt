@@ -2,7 +2,7 @@
 use Rattle.std.specs.Prelude.{false, List, [], ◌∷◌, ◌++◌, ◌≡◌, refl, ℕ, suc, ◌+◌, ◌-◌, ◌*◌, eqb, length}
 use Rattle.std.proofs.Common.{sym, ap, ap₂, ◌∙◌, mul_comm, arith, eqb-true}
 use Rattle.std.proofs.Math.Nat.{sub-zero, suc-sub-suc}
-use Rattle.lists.specs.Lists.{indicator, sumBy, count, ◌∈◌, has, without}
+use Rattle.lists.specs.Lists.{indicator, sum_by, count, ◌∈◌, has, without}
 use Rattle.lists.specs.Tests.{split, eqb_self}
 use Rattle.lists.specs.Counts.{has_in, has-none, in_first, count-append, count-without}
 use Rattle.game.specs.Orders.{orders, factorial, before, Ignores}
@@ -62,7 +62,7 @@ module _ (ps c : List ℕ) (inside : (i : ℕ) → i ∈ c → count i c ≡ cou
   -- THE FACT ON JOINING ORDERS, for a part c of the players of any size: the sum over the orders of all, of what ignores
   -- everybody outside c, is (length ps)! / (length c)! times the sum over the orders of c
   pub joining : (f : List ℕ → ℕ) → ((r : ℕ) → count r c ≡ 0 → Ignores r f)
-      → sumBy f (orders ps) * factorial (length c) ≡ factorial (length ps) * sumBy f (orders c)
+      → sum_by f (orders ps) * factorial (length c) ≡ factorial (length ps) * sum_by f (orders c)
   joining f h =
       ap (λ n. n * factorial (length c)) (sum-orders ps f ∙ over_orders_order part-last f)
       ∙ join_front (without c ps) c f (λ r p. h r (split (has r c)

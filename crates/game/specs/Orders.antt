@@ -2,7 +2,7 @@
 -- Definitions only.
 use Rattle.std.specs.Prelude.{Bool, true, false, cond, ◌&&◌, ◌≡◌, ℕ, zero, suc, ◌*◌, ◌<◌, eqb, ltb, length}
 use mathlib.Core.List.{List, [], ◌∷◌, ◌++◌, map, flat_map}
-use Rattle.lists.specs.Lists.{indicator, countBy, count}
+use Rattle.lists.specs.Lists.{indicator, count_by, count}
 
 -- the lists made by putting x into l, one for each place
 abbrev pub insertions : ℕ → List ℕ → List (List ℕ)
@@ -40,7 +40,7 @@ same (x ∷ l) (y ∷ m) = eqb x y && same l m
 
 -- how often a list stands among lists
 abbrev pub times : List ℕ → List (List ℕ) → ℕ
-times l ls = countBy (same l) ls
+times l ls = count_by (same l) ls
 
 -- ls holds each of the n! orders of n buses once, and nothing else
 pub record EveryOrderOnce (n : ℕ) (ls : List (List ℕ)) : Type 0 where

@@ -4,7 +4,7 @@ use Rattle.std.proofs.Common.{ap, ◌∙◌, mul-le-mul_left, arith, leb-true, l
 use Rattle.std.proofs.lemmas.Bool.{lt-leb}
 use Rattle.lists.specs.Lists.{indicator, has}
 use Rattle.lists.specs.Tests.{split, or_left, or_right}
-use Rattle.lists.specs.Sums.{cond-indicator, indicator_grows, sumBy-cong, sumBy-zero, sum_by_le}
+use Rattle.lists.specs.Sums.{cond-indicator, indicator_grows, sum_by_cong, sum_by-zero, sum_by_le}
 use Rattle.lists.specs.Counts.{has_grows, count_in-none, count_in_grows, sum_by_cong_in}
 use Rattle.game.specs.Game.{Game, seen, value, GameOn}
 
@@ -12,7 +12,7 @@ use Rattle.game.specs.Game.{Game, seen, value, GameOn}
 
 seen_same : (g : Game) (s t : List ℕ) → ((x : ℕ) → has x s ≡ has x t) → (u : ℕ) → seen g u s ≡ seen g u t
 unfolding seen
-seen_same g s t h u = cc (h u, sumBy-cong (λ x. ap indicator (h x)) (g.watchers u))
+seen_same g s t h u = cc (h u, sum_by_cong (λ x. ap indicator (h x)) (g.watchers u))
 
 -- neither the order of s nor a repeat in it matters
 pub value_same : (g : Game) (ps s t : List ℕ) → ((x : ℕ) → has x s ≡ has x t) → value g ps s ≡ value g ps t
@@ -50,4 +50,4 @@ seen_none g u hk = leb-none _ _ (count_in-none (g.watchers u)) (omega arith)
 
 pub value_none : (g : Game) (ps : List ℕ) → GameOn ps g → value g ps [] ≡ 0
 unfolding value
-value_none g ps on = sum_by_cong_in ps (λ u hu. rw (seen_none g u (on.needs u hu))) ∙ sumBy-zero ps
+value_none g ps on = sum_by_cong_in ps (λ u hu. rw (seen_none g u (on.needs u hu))) ∙ sum_by-zero ps

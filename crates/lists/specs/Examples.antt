@@ -1,6 +1,6 @@
 -- The vocabulary, computed.
 use Rattle.std.specs.Prelude.{true, false, List, [], ◌∷◌, ◌≡◌, refl, ℕ, ◌*◌, ltb}
-use Rattle.lists.specs.Lists.{sumBy, count, has, count_in, without, at, put, WrittenAt}
+use Rattle.lists.specs.Lists.{sum_by, count, has, count_in, without, at, put, WrittenAt}
 use Rattle.lists.specs.Below.{all_below, any_below, sum_below, count_below, join_below, map_below, list_below, range}
 
 abbrev sample : List ℕ
@@ -27,7 +27,7 @@ unfolding put
 written = (refl, refl)
 
 -- 0 + 1 + 4 + 9, by the bound and by the list; two of 0, 1, 2, 3 are below 2
-squares : (sum_below 4 (λ i. i * i) ∷ sumBy (λ i. i * i) (range 4) ∷ count_below 4 (λ i. ltb i 2) ∷ []) ≡ 14 ∷ 14 ∷ 2 ∷ []
+squares : (sum_below 4 (λ i. i * i) ∷ sum_by (λ i. i * i) (range 4) ∷ count_below 4 (λ i. ltb i 2) ∷ []) ≡ 14 ∷ 14 ∷ 2 ∷ []
 unfolding sum_below map_below join_below
 squares = refl
 

@@ -5,14 +5,14 @@ use Rattle.std.proofs.Common.{append_assoc, append-nil, ⊎_elim, sym, ap, ap₂
 use Rattle.std.proofs.Math.ListN.{get_or-append}
 use Rattle.lists.specs.Lists.{◌∈◌, at, Ascending}
 use Rattle.lists.specs.Below.{sum_below, join_below, map_below, range}
-use Rattle.lists.specs.Sums.{sumBy-ones}
+use Rattle.lists.specs.Sums.{sum_by_ones}
 use Rattle.lists.specs.Places.{at_take, at-append, at-behind, at_drop, in_at, at_in}
 use Rattle.lists.specs.Loops.{last_or}
 use Rattle.lists.specs.SumsBelow.{sum_by_join_below, sum_below-same, sum_below_grows, sum_below-next-le, sum_below_const}
 
 pub length-join_below : (n : ℕ) (f : ℕ → List ℕ) → length (join_below n f) ≡ sum_below n (λ i. length (f i))
 length-join_below n f =
-    sym (sumBy-ones (join_below n f)) ∙ sum_by_join_below (λ x. 1) n f ∙ sum_below-same _ _ n (λ i l. sumBy-ones (f i))
+    sym (sum_by_ones (join_below n f)) ∙ sum_by_join_below (λ x. 1) n f ∙ sum_below-same _ _ n (λ i l. sum_by_ones (f i))
 
 pub length-map_below : (n : ℕ) (f : ℕ → ℕ) → length (map_below n f) ≡ n
 unfolding map_below

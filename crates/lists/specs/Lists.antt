@@ -8,17 +8,17 @@ indicator b = cond b 1 0
 
 module _ {ℓ} {A : Type ℓ} where
   -- the sum of f x over the members x of a list
-  abbrev pub sumBy : (A → ℕ) → List A → ℕ
-  sumBy f [] = 0
-  sumBy f (x ∷ l) = f x + sumBy f l
+  abbrev pub sum_by : (A → ℕ) → List A → ℕ
+  sum_by f [] = 0
+  sum_by f (x ∷ l) = f x + sum_by f l
 
   -- how many members of a list pass a test
-  abbrev pub countBy : (A → Bool) → List A → ℕ
-  countBy p l = sumBy (λ x. indicator (p x)) l
+  abbrev pub count_by : (A → Bool) → List A → ℕ
+  count_by p l = sum_by (λ x. indicator (p x)) l
 
 -- how often x stands in a list
 abbrev pub count : ℕ → List ℕ → ℕ
-count x l = countBy (eqb x) l
+count x l = count_by (eqb x) l
 
 -- x stands in a list
 infix 45 ◌∈◌
@@ -35,7 +35,7 @@ Once l = (x : ℕ) → count x l ≤ 1
 
 -- how many members of l stand in s
 abbrev pub count_in : List ℕ → List ℕ → ℕ
-count_in s l = countBy (λ x. has x s) l
+count_in s l = count_by (λ x. has x s) l
 
 -- the members of a list that do not stand in s
 abbrev pub without : List ℕ → List ℕ → List ℕ

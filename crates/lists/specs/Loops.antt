@@ -7,10 +7,10 @@ use Prim.Native.Nat.{ℕ, zero, suc, ◌+◌, ◌≤◌, ◌<◌, max}
 use Rattle.std.proofs.Math.Nat.{max-eq_left, max-eq_right}
 use native.Mathlib.Omega.{arith}
 use Rattle.std.proofs.lemmas.Bool.{eqb-false}
-use Rattle.lists.specs.Lists.{indicator, sumBy, at, Tabled}
+use Rattle.lists.specs.Lists.{indicator, sum_by, at, Tabled}
 use Rattle.lists.specs.Below.{all_below, any_below, sum_below, largest_below, join_below, map_below}
 use Rattle.lists.specs.Tests.{split, fails, never_both, and_both, and_left, and_right, or_left, or_right, eqb_comm}
-use Rattle.lists.specs.Sums.{sumBy-append}
+use Rattle.lists.specs.Sums.{sum_by-append}
 use Rattle.lists.specs.Places.{at_set, take_next}
 
 -- a number below n + 1 is n, or below n
@@ -58,8 +58,8 @@ unfolding map_below
 map_below-next n f = join_below-next n (λ i. f i ∷ [])
 
 -- along a list
-pub sum_by_take-next : (f : ℕ → ℕ) (l : List ℕ) (k : ℕ) → k < length l → sumBy f (take (k + 1) l) ≡ sumBy f (take k l) + f (at l k)
-sum_by_take-next f l k h = rw (take_next k l h) (omega (arith, sumBy-append f (take k l) (at l k ∷ [])))
+pub sum_by_take_next : (f : ℕ → ℕ) (l : List ℕ) (k : ℕ) → k < length l → sum_by f (take (k + 1) l) ≡ sum_by f (take k l) + f (at l k)
+sum_by_take_next f l k h = rw (take_next k l h) (omega (arith, sum_by-append f (take k l) (at l k ∷ [])))
 
 -- an entry stored behind those that are right
 pub tabled_next : (f : ℕ → ℕ) (n : ℕ) (l : List ℕ) {x : ℕ} → Tabled n f l → n < length l → x ≡ f n → Tabled (n + 1) f (set l n x)
@@ -81,35 +81,35 @@ tabled_more f n l k h b c i g =
 
 -- the next value is larger than those before it, or it is not
 module _ (f : ℕ → ℕ) (i : ℕ) {m k : ℕ} (em : m ≡ largest_below i f) (ek : k ≡ f i) where
-  pub largestBelow-rises : m < k → k ≡ largest_below (i + 1) f
-  largestBelow-rises l = sym (largest_below-next i f ∙ rw (← em, ← ek) (max-eq_right (omega arith)))
+  pub largest_below_rises : m < k → k ≡ largest_below (i + 1) f
+  largest_below_rises l = sym (largest_below-next i f ∙ rw (← em, ← ek) (max-eq_right (omega arith)))
 
-  pub largestBelow-stays : k ≤ m → m ≡ largest_below (i + 1) f
-  largestBelow-stays l = sym (largest_below-next i f ∙ rw (← em, ← ek) (max-eq_left l))
+  pub largest_below_stays : k ≤ m → m ≡ largest_below (i + 1) f
+  largest_below_stays l = sym (largest_below-next i f ∙ rw (← em, ← ek) (max-eq_left l))
 
 -- ---- every number passes
 
 module _ (p : ℕ → Bool) where
-  pub allBelow-at : (n : ℕ) {i : ℕ} → all_below n p ≡ true → i < n → p i ≡ true
+  pub all_below-at : (n : ℕ) {i : ℕ} → all_below n p ≡ true → i < n → p i ≡ true
   unfolding all_below
-  allBelow-at zero h l = absurd (not-suc-le-zero l)
-  allBelow-at (suc n) h l =
-      ⊎_elim (λ e. rw e (and_right (all_below n p) (p n) h)) (λ l. allBelow-at n (and_left (all_below n p) (p n) h) l) (last_or l)
+  all_below-at zero h l = absurd (not-suc-le-zero l)
+  all_below-at (suc n) h l =
+      ⊎_elim (λ e. rw e (and_right (all_below n p) (p n) h)) (λ l. all_below-at n (and_left (all_below n p) (p n) h) l) (last_or l)
 
-  pub allBelow-by : (n : ℕ) → ((i : ℕ) → i < n → p i ≡ true) → all_below n p ≡ true
+  pub all_below_by : (n : ℕ) → ((i : ℕ) → i < n → p i ≡ true) → all_below n p ≡ true
   unfolding all_below
-  allBelow-by zero h = refl
-  allBelow-by (suc n) h = and_both (all_below n p) (p n) (allBelow-by n (λ i l. h i (omega arith))) (h n (omega arith))
+  all_below_by zero h = refl
+  all_below_by (suc n) h = and_both (all_below n p) (p n) (all_below_by n (λ i l. h i (omega arith))) (h n (omega arith))
 
   -- an iteration passes; an iteration fails; the loop is through
-  pub allBelow-more : (i : ℕ) → all_below i p ≡ true → p i ≡ true → all_below (i + 1) p ≡ true
-  allBelow-more i h k = all_below-next i p ∙ and_both (all_below i p) (p i) h k
+  pub all_below_more : (i : ℕ) → all_below i p ≡ true → p i ≡ true → all_below (i + 1) p ≡ true
+  all_below_more i h k = all_below-next i p ∙ and_both (all_below i p) (p i) h k
 
-  pub allBelow-fails : (n i : ℕ) → i < n → p i ≡ false → all_below n p ≡ false
-  allBelow-fails n i l f = fails (all_below n p) (λ t. never_both (allBelow-at n t l) f)
+  pub all_below_fails : (n i : ℕ) → i < n → p i ≡ false → all_below n p ≡ false
+  all_below_fails n i l f = fails (all_below n p) (λ t. never_both (all_below-at n t l) f)
 
-  pub allBelow-done : (n i : ℕ) → all_below i p ≡ true → i ≤ n → n ≤ i → all_below n p ≡ true
-  allBelow-done n i = by_end (λ m. all_below m p ≡ true)
+  pub all_below_done : (n i : ℕ) → all_below i p ≡ true → i ≤ n → n ≤ i → all_below n p ≡ true
+  all_below_done n i = by_end (λ m. all_below m p ≡ true)
 
 pub all_below-same : (p q : ℕ → Bool) (n : ℕ) → ((i : ℕ) → i < n → p i ≡ q i) → all_below n p ≡ all_below n q
 unfolding all_below
@@ -119,28 +119,28 @@ all_below-same p q (suc n) h = ap₂ ◌&&◌ (all_below-same p q n (λ i l. h i
 -- ---- some number passes
 
 module _ (p : ℕ → Bool) where
-  pub anyBelow-at : (n : ℕ) → any_below n p ≡ true → (i : ℕ) × (i < n) × (p i ≡ true)
+  pub any_below-at : (n : ℕ) → any_below n p ≡ true → (i : ℕ) × (i < n) × (p i ≡ true)
   unfolding any_below
-  anyBelow-at zero h = absurd (true≢false (sym h))
-  anyBelow-at (suc n) h =
-      split (any_below n p) (λ t. let w = anyBelow-at n t in (w.0, omega (arith, w.1), w.2)) (λ f. (n, omega arith, rw f at h))
+  any_below-at zero h = absurd (true≢false (sym h))
+  any_below-at (suc n) h =
+      split (any_below n p) (λ t. let w = any_below-at n t in (w.0, omega (arith, w.1), w.2)) (λ f. (n, omega arith, rw f at h))
 
-  pub anyBelow-by : (n i : ℕ) → i < n → p i ≡ true → any_below n p ≡ true
+  pub any_below_by : (n i : ℕ) → i < n → p i ≡ true → any_below n p ≡ true
   unfolding any_below
-  anyBelow-by zero i l h = absurd (not-suc-le-zero l)
-  anyBelow-by (suc n) i l h =
-      ⊎_elim (λ e. or_right (any_below n p) (p n) (rw (← e) h)) (λ l. or_left (any_below n p) (p n) (anyBelow-by n i l h)) (last_or l)
+  any_below_by zero i l h = absurd (not-suc-le-zero l)
+  any_below_by (suc n) i l h =
+      ⊎_elim (λ e. or_right (any_below n p) (p n) (rw (← e) h)) (λ l. or_left (any_below n p) (p n) (any_below_by n i l h)) (last_or l)
 
   -- an iteration does not pass
-  pub anyBelow-more : (i : ℕ) → any_below i p ≡ false → p i ≡ false → any_below (i + 1) p ≡ false
-  anyBelow-more i h k = any_below-next i p ∙ rw (h, k)
+  pub any_below_more : (i : ℕ) → any_below i p ≡ false → p i ≡ false → any_below (i + 1) p ≡ false
+  any_below_more i h k = any_below-next i p ∙ rw (h, k)
 
   -- no number passes
-  pub anyBelow-none : (n : ℕ) {i : ℕ} → any_below n p ≡ false → i < n → p i ≡ false
-  anyBelow-none n {i} h l = fails (p i) (λ t. never_both (anyBelow-by n i l t) h)
+  pub any_below-none : (n : ℕ) {i : ℕ} → any_below n p ≡ false → i < n → p i ≡ false
+  any_below-none n {i} h l = fails (p i) (λ t. never_both (any_below_by n i l t) h)
 
-  pub anyBelow-fails : (n : ℕ) → ((i : ℕ) → i < n → p i ≡ false) → any_below n p ≡ false
-  anyBelow-fails n h = fails (any_below n p) (λ t. let w = anyBelow-at n t in never_both w.2 (h w.0 w.1))
+  pub any_below_fails : (n : ℕ) → ((i : ℕ) → i < n → p i ≡ false) → any_below n p ≡ false
+  any_below_fails n h = fails (any_below n p) (λ t. let w = any_below-at n t in never_both w.2 (h w.0 w.1))
 
 -- tests that agree below n agree on some number
 pub any_below-same : (p q : ℕ → Bool) (n : ℕ) → ((i : ℕ) → i < n → p i ≡ q i) → any_below n p ≡ any_below n q

@@ -6,9 +6,9 @@ use Rattle.std.proofs.Math.ListN.{get_or-append}
 use Rattle.std.proofs.lemmas.List.{take-append-le, drop-append-le}
 use Rattle.std.proofs.Math.Seq.{take-nil}
 use Rattle.std.proofs.lemmas.Bool.{eqb-false}
-use Rattle.lists.specs.Lists.{indicator, countBy, count, ◌∈◌, has, Once, at, part, Ascending}
+use Rattle.lists.specs.Lists.{indicator, count_by, count, ◌∈◌, has, Once, at, part, Ascending}
 use Rattle.lists.specs.Tests.{split}
-use Rattle.lists.specs.Sums.{sumBy-cong, sumBy-add, sumBy-zero}
+use Rattle.lists.specs.Sums.{sum_by_cong, sum_by-add, sum_by-zero}
 use Rattle.lists.specs.Counts.{has_in, has-none, in_first, sum_by_cong_in}
 
 pub at-zeros : (n k : ℕ) → at (replicate n 0) k ≡ 0
@@ -135,25 +135,25 @@ under_next i y =
     (λ b. let q = eqb-true i y b in rw (a, b, lt-ltb y (i + 1) (omega arith)))
     (λ b. let d : i ≡ y → ⊥ = eqb-false i y b in rw (a, b, le-ltb y (i + 1) (omega (arith, d)))))
 
-pub count_under_next : (i : ℕ) (l : List ℕ) → countBy (λ y. ltb y (i + 1)) l ≡ countBy (λ y. ltb y i) l + count i l
-count_under_next i l = sumBy-cong (under_next i) l ∙ sumBy-add (λ y. indicator (ltb y i)) (λ y. indicator (eqb i y)) l
+pub count_under_next : (i : ℕ) (l : List ℕ) → count_by (λ y. ltb y (i + 1)) l ≡ count_by (λ y. ltb y i) l + count i l
+count_under_next i l = sum_by_cong (under_next i) l ∙ sum_by-add (λ y. indicator (ltb y i)) (λ y. indicator (eqb i y)) l
 
 -- a list that ascends: its first entry is below the others, which ascend too
 module _ (y : ℕ) (l : List ℕ) (h : Ascending (y ∷ l)) where
-  pub ascends-above : (z : ℕ) → z ∈ l → y < z
+  pub ascends_above : (z : ℕ) → z ∈ l → y < z
   unfolding at
-  ascends-above z i = let w = at_in z l i in omega (arith, h 0 (suc w.0) (zero-lt-suc w.0) (omega (arith, w.1)), w.2)
+  ascends_above z i = let w = at_in z l i in omega (arith, h 0 (suc w.0) (zero-lt-suc w.0) (omega (arith, w.1)), w.2)
 
-  pub ascends-tail : Ascending l
+  pub ascends_tail : Ascending l
   unfolding at
-  ascends-tail j k a b = h (suc j) (suc k) (omega arith) (omega arith)
+  ascends_tail j k a b = h (suc j) (suc k) (omega arith) (omega arith)
 
-  is-first : (x : ℕ) → x ∈ (y ∷ l) → x ≤ y → y ≡ x
-  is-first x m g =
-      split (eqb x y) (λ e. sym (eqb-true x y e)) (λ e. absurd (let z = ascends-above x (omega (arith, ap indicator e)) in omega arith))
+  is_first : (x : ℕ) → x ∈ (y ∷ l) → x ≤ y → y ≡ x
+  is_first x m g =
+      split (eqb x y) (λ e. sym (eqb-true x y e)) (λ e. absurd (let z = ascends_above x (omega (arith, ap indicator e)) in omega arith))
 
-  none-under : (x : ℕ) → x ≤ y → countBy (λ z. ltb z x) l ≡ 0
-  none-under x g = sum_by_cong_in l (λ z i. let w = ascends-above z i in ap indicator (le-ltb z x (omega arith))) ∙ sumBy-zero l
+  none_under : (x : ℕ) → x ≤ y → count_by (λ z. ltb z x) l ≡ 0
+  none_under x g = sum_by_cong_in l (λ z i. let w = ascends_above z i in ap indicator (le-ltb z x (omega arith))) ∙ sum_by-zero l
 
 pub ascends_cons : (y : ℕ) (l : List ℕ) → ((z : ℕ) → z ∈ l → y < z) → Ascending l → Ascending (y ∷ l)
 unfolding at
@@ -169,20 +169,20 @@ ascending_same (x ∷ l) [] f g h = absurd (omega (arith, h x, in_first x l))
 ascending_same (x ∷ l) (y ∷ m) f g h =
     let e : x ≡ y =
     split (leb x y)
-    (λ t. sym (is-first y m g x (omega (arith, h x, in_first x l)) (leb-true x y t)))
-    (λ t. let z = leb-false x y t in is-first x l f y (omega (arith, h y, in_first y m)) (omega arith)) in
-    ap₂ ◌∷◌ e (ascending_same l m (ascends-tail x l f) (ascends-tail y m g) (λ z. omega (arith, h z, ap (λ v. indicator (eqb z v)) e)))
+    (λ t. sym (is_first y m g x (omega (arith, h x, in_first x l)) (leb-true x y t)))
+    (λ t. let z = leb-false x y t in is_first x l f y (omega (arith, h y, in_first y m)) (omega arith)) in
+    ap₂ ◌∷◌ e (ascending_same l m (ascends_tail x l f) (ascends_tail y m g) (λ z. omega (arith, h z, ap (λ v. indicator (eqb z v)) e)))
 
 -- and a member stands behind just those below it
 pub ascending_place : (x : ℕ) (l : List ℕ) → Ascending l → x ∈ l
-    → (countBy (λ y. ltb y x) l < length l) × (at l (countBy (λ y. ltb y x) l) ≡ x)
+    → (count_by (λ y. ltb y x) l < length l) × (at l (count_by (λ y. ltb y x) l) ≡ x)
 unfolding at
 ascending_place x [] h m = absurd (omega arith)
 ascending_place x (y ∷ l) h m =
     split (ltb y x)
     (λ e. let g = ltb-true y x e in
-    let w = ascending_place x l (ascends-tail y l h) (omega (arith, ap indicator (ne_eqb x y (omega arith)))) in
-    let c = countBy (λ z. ltb z x) l in
+    let w = ascending_place x l (ascends_tail y l h) (omega (arith, ap indicator (ne_eqb x y (omega arith)))) in
+    let c = count_by (λ z. ltb z x) l in
     let q : 1 + c ≡ suc c = omega arith in
     rw e (omega (arith, w.0), ap (at (y ∷ l)) q ∙ w.1))
-    (λ e. let g = ltb-false y x e in rw (e, none-under y l h x g) (omega arith, is-first y l h x m g))
+    (λ e. let g = ltb-false y x e in rw (e, none_under y l h x g) (omega arith, is_first y l h x m g))

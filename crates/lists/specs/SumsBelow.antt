@@ -4,22 +4,22 @@ use Rattle.std.proofs.Common.{⊎_elim, sym, ap, ap₂, ◌∙◌, zero-le, not-
 use Rattle.std.proofs.Math.Path.{fun_ext}
 use Rattle.std.proofs.Math.Nat.{le-max_left, le-max_right, max-le}
 use Rattle.std.proofs.lemmas.Bool.{eqb-false}
-use Rattle.lists.specs.Lists.{indicator, sumBy, count, ◌∈◌, has, Once}
+use Rattle.lists.specs.Lists.{indicator, sum_by, count, ◌∈◌, has, Once}
 use Rattle.lists.specs.Below.{sum_below, count_below, largest_below, join_below, map_below, range}
 use Rattle.lists.specs.Tests.{split, passes, eqb_self}
-use Rattle.lists.specs.Sums.{indicator-le, sumBy-append, sumBy-add, sumBy-ones}
+use Rattle.lists.specs.Sums.{indicator-le, sum_by-append, sum_by-add, sum_by_ones}
 use Rattle.lists.specs.Counts.{count-append, sum_by_cong_in, sum_by_single, sum_by_part}
 use Rattle.lists.specs.Loops.{last_or, sum_below-next}
 
 -- ---- sums
 
-pub sum_by_join_below : (g : ℕ → ℕ) (n : ℕ) (f : ℕ → List ℕ) → sumBy g (join_below n f) ≡ sum_below n (λ i. sumBy g (f i))
+pub sum_by_join_below : (g : ℕ → ℕ) (n : ℕ) (f : ℕ → List ℕ) → sum_by g (join_below n f) ≡ sum_below n (λ i. sum_by g (f i))
 unfolding join_below sum_below
 sum_by_join_below g zero f = refl
-sum_by_join_below g (suc n) f = sumBy-append g (join_below n f) (f n) ∙ ap (λ s. s + sumBy g (f n)) (sum_by_join_below g n f)
+sum_by_join_below g (suc n) f = sum_by-append g (join_below n f) (f n) ∙ ap (λ s. s + sum_by g (f n)) (sum_by_join_below g n f)
 
--- THE LINK: a sum over the numbers below n is a sum over their list, so the laws of `sumBy` are those of `sum_below`
-pub sum_by_range : (f : ℕ → ℕ) (n : ℕ) → sumBy f (range n) ≡ sum_below n f
+-- THE LINK: a sum over the numbers below n is a sum over their list, so the laws of `sum_by` are those of `sum_below`
+pub sum_by_range : (f : ℕ → ℕ) (n : ℕ) → sum_by f (range n) ≡ sum_below n f
 unfolding map_below
 sum_by_range f n = sum_by_join_below f n (λ i. i ∷ []) ∙ ap (sum_below n) (fun_ext (λ i. add-zero (f i)))
 
@@ -48,7 +48,7 @@ pub sum_below-same : (f g : ℕ → ℕ) (n : ℕ) → ((i : ℕ) → i < n → 
 sum_below-same f g n h = sym (sum_by_range f n) ∙ sum_by_cong_in (range n) (λ i p. h i (of_range i n p)) ∙ sum_by_range g n
 
 pub sum_below-add : (f g : ℕ → ℕ) (n : ℕ) → sum_below n (λ i. f i + g i) ≡ sum_below n f + sum_below n g
-sum_below-add f g n = sym (sum_by_range (λ i. f i + g i) n) ∙ sumBy-add f g (range n) ∙ ap₂ ◌+◌ (sum_by_range f n) (sum_by_range g n)
+sum_below-add f g n = sym (sum_by_range (λ i. f i + g i) n) ∙ sum_by-add f g (range n) ∙ ap₂ ◌+◌ (sum_by_range f n) (sum_by_range g n)
 
 pub sum_below-le : (f g : ℕ → ℕ) (n : ℕ) → ((i : ℕ) → i < n → f i ≤ g i) → sum_below n f ≤ sum_below n g
 unfolding sum_below
@@ -132,7 +132,7 @@ sum_below_mirror f (suc n) h d =
 -- a list without repeats is as long as it has members
 pub length_members : (n : ℕ) (l : List ℕ) → Once l → ((x : ℕ) → x ∈ l → x < n) → length l ≡ count_below n (λ x. has x l)
 length_members n l once low =
-    sym (sumBy-ones l)
+    sym (sum_by_ones l)
     ∙ sym (sum_by_part (λ x. 1) (range n) l (range_once n) once (λ x m. in_range_lem x n (low x m)))
     ∙ sum_by_range (λ x. indicator (has x l)) n
 

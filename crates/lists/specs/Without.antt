@@ -4,7 +4,7 @@ use Rattle.std.proofs.Common.{ap, arith}
 use Rattle.lists.specs.Lists.{◌∈◌, has, without, Ascending}
 use Rattle.lists.specs.Tests.{split}
 use Rattle.lists.specs.Counts.{has_in, has-none, in_has, none_has, count-without}
-use Rattle.lists.specs.Places.{ascends-above, ascends-tail, ascends_cons}
+use Rattle.lists.specs.Places.{ascends_above, ascends_tail, ascends_cons}
 
 pub without-none : (l : List ℕ) → without [] l ≡ l
 without-none [] = refl
@@ -42,7 +42,7 @@ length-without-le s (y ∷ l) =
 pub ascends_without : (s l : List ℕ) → Ascending l → Ascending (without s l)
 ascends_without s [] h = h
 ascends_without s (y ∷ l) h =
-    let r = ascends_without s l (ascends-tail y l h) in
+    let r = ascends_without s l (ascends_tail y l h) in
     split (has y s)
     (λ e. rw e r)
-    (λ e. rw e (ascends_cons y (without s l) (λ z m. ascends-above y l h z (of_without s l z m)) r))
+    (λ e. rw e (ascends_cons y (without s l) (λ z m. ascends_above y l h z (of_without s l z m)) r))

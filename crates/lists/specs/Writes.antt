@@ -26,20 +26,20 @@ unfolding put
 put-none t i = rw add-zero (take-append-drop i t)
 
 module _ (t : List ℕ) (i : ℕ) (vs : List ℕ) where
-  head-length : i ≤ length t → length (take i t ++ vs) ≡ i + length vs
-  head-length h = length-append (take i t) vs ∙ ap (λ n. n + length vs) (length-take-le i t h)
+  head_length : i ≤ length t → length (take i t ++ vs) ≡ i + length vs
+  head_length h = length-append (take i t) vs ∙ ap (λ n. n + length vs) (length-take-le i t h)
 
   pub length-put : i + length vs ≤ length t → length (put t i vs) ≡ length t
   unfolding put
   length-put h = simp (length-append, length-take, length-drop) (omega arith)
 
   -- one entry more
-  pub put-snoc : (x : ℕ) → i + length vs < length t → set (put t i vs) (i + length vs) x ≡ put t i (vs ++ (x ∷ []))
+  pub put_snoc : (x : ℕ) → i + length vs < length t → set (put t i vs) (i + length vs) x ≡ put t i (vs ++ (x ∷ []))
   unfolding put
-  put-snoc x h =
+  put_snoc x h =
       ap (λ l. set (take i t ++ (vs ++ l)) (i + length vs) x) (drop-cons t (i + length vs) 0 h)
       ∙ ap (λ l. set l (i + length vs) x) (sym (append_assoc (take i t) vs _))
-      ∙ set_at (take i t ++ vs) _ _ x _ (head-length (omega arith))
+      ∙ set_at (take i t ++ vs) _ _ x _ (head_length (omega arith))
       ∙ append_assoc (take i t) vs _
       ∙ ap (λ l. take i t ++ l) (sym (append_snoc vs x _))
       ∙ ap (λ n. take i t ++ ((vs ++ (x ∷ [])) ++ drop n t)) (sym (ap (λ n. i + n) (length-append vs (x ∷ []) ∙ add-one (length vs)) ∙ add-suc i (length vs)))
@@ -49,21 +49,21 @@ module _ (t : List ℕ) (i : ℕ) (vs : List ℕ) where
   unfolding put
   put-put ws h =
       ap (λ l. take (i + length vs) l ++ (ws ++ drop (i + length vs + length ws) l)) (sym (append_assoc (take i t) vs (drop (i + length vs) t)))
-      ∙ ap₂ (λ l k. l ++ (ws ++ k)) (take_at (take i t ++ vs) _ _ (head-length h)) rest
+      ∙ ap₂ (λ l k. l ++ (ws ++ k)) (take_at (take i t ++ vs) _ _ (head_length h)) rest
       ∙ append_assoc (take i t) vs _
       ∙ ap (λ l. take i t ++ l) (sym (append_assoc vs ws _))
       ∙ ap (λ n. take i t ++ ((vs ++ ws) ++ drop n t)) (add_assoc i (length vs) (length ws) ∙ sym (ap (λ n. i + n) (length-append vs ws)))
     where
       rest : drop (i + length vs + length ws) ((take i t ++ vs) ++ drop (i + length vs) t) ≡ drop (i + length vs + length ws) t
       rest =
-          ap (λ n. drop (n + length ws) ((take i t ++ vs) ++ drop (i + length vs) t)) (sym (head-length h))
+          ap (λ n. drop (n + length ws) ((take i t ++ vs) ++ drop (i + length vs) t)) (sym (head_length h))
           ∙ drop-append-add (take i t ++ vs) (drop (i + length vs) t) (length ws)
           ∙ drop-drop (length ws) (i + length vs) t
 
   -- a store at the first place is written over
-  pub put-over : (x : ℕ) → 0 < length vs → put (set t i x) i vs ≡ put t i vs
+  pub put_over : (x : ℕ) → 0 < length vs → put (set t i x) i vs ≡ put t i vs
   unfolding put
-  put-over x h = ap₂ (λ u v. u ++ (vs ++ v)) (take-set-le i t i x (le_refl i)) (drop-set-lt (i + length vs) t i x (omega arith))
+  put_over x h = ap₂ (λ u v. u ++ (vs ++ v)) (take-set-le i t i x (le_refl i)) (drop-set-lt (i + length vs) t i x (omega arith))
 
   -- what was written is there, and what stands before and behind it stays
   pub part-put : i ≤ length t → part i (i + length vs) (put t i vs) ≡ vs
@@ -82,7 +82,7 @@ module _ (t : List ℕ) (i : ℕ) (vs : List ℕ) where
   unfolding put
   part-put-behind a e l h =
       let d = a - (i + length vs) in
-      let p : length (take i t ++ vs) + d ≡ a = omega (arith, head-length h) in
+      let p : length (take i t ++ vs) + d ≡ a = omega (arith, head_length h) in
       let q : i + length vs + d ≡ a = omega arith in
       ap (take (e - a))
       (ap₂ drop (sym p) (sym (append_assoc (take i t) vs (drop (i + length vs) t)))
@@ -121,22 +121,22 @@ module _ (t : List ℕ) (i : ℕ) (vs : List ℕ) {u : List ℕ} {j : ℕ} (w : 
   pub stored-length : j ≤ length t → length u ≡ length t
   stored-length h = ap length w ∙ length-put t i vs (omega arith)
 
-  pub stored-entry : (x : ℕ) → j < length t → set u j x ≡ put t i (vs ++ (x ∷ []))
-  stored-entry x h = ap₂ (λ l n. set l n x) w e ∙ put-snoc t i vs x (omega arith)
+  pub stored_entry : (x : ℕ) → j < length t → set u j x ≡ put t i (vs ++ (x ∷ []))
+  stored_entry x h = ap₂ (λ l n. set l n x) w e ∙ put_snoc t i vs x (omega arith)
 
-  pub stored-list : (ws : List ℕ) → i ≤ length t → put u j ws ≡ put t i (vs ++ ws)
-  stored-list ws h = ap₂ (λ l n. put l n ws) w e ∙ put-put t i vs ws h
+  pub stored_list : (ws : List ℕ) → i ≤ length t → put u j ws ≡ put t i (vs ++ ws)
+  stored_list ws h = ap₂ (λ l n. put l n ws) w e ∙ put-put t i vs ws h
 
 pub written_none : (t : List ℕ) (i : ℕ) → WrittenAt [] i t i t
 written_none t i = (sym (add-zero i), sym (put-none t i))
 
 -- a store writes one entry
 pub written_entry : (t : List ℕ) (i x : ℕ) → i < length t → WrittenAt (x ∷ []) i t (i + 1) (set t i x)
-written_entry t i x h = (refl, stored-entry t i [] (sym (put-none t i)) (sym (add-zero i)) x h)
+written_entry t i x h = (refl, stored_entry t i [] (sym (put-none t i)) (sym (add-zero i)) x h)
 
 -- what is written right behind what was written joins it
 pub written-append : (t : List ℕ) (i : ℕ) (vs ws : List ℕ) {u v : List ℕ} {j k : ℕ} → i ≤ length t → WrittenAt vs i t j u → WrittenAt ws j u k v → WrittenAt (vs ++ ws) i t k v
-written-append t i vs ws h a b = (omega (arith, a.0, b.0, length-append vs ws), b.1 ∙ stored-list t i vs a.1 a.0 ws h)
+written-append t i vs ws h a b = (omega (arith, a.0, b.0, length-append vs ws), b.1 ∙ stored_list t i vs a.1 a.0 ws h)
 
 -- a loop that writes the lists f 0, f 1, .. into t from place i on: so far k of them stand in u, and j is the place behind them
 module _ (f : ℕ → List ℕ) (t : List ℕ) (i : ℕ) where
@@ -149,16 +149,16 @@ module _ (f : ℕ → List ℕ) (t : List ℕ) (i : ℕ) where
     pub written_next : {x v : List ℕ} {r : ℕ} → i ≤ length t → x ≡ f k → WrittenAt x j u r v → WrittenAt (join_below (k + 1) f) i t r v
     written_next {x} h e s = rw (join_below-next k f, ← e) (written-append t i (join_below k f) x h w s)
 
-    pub written-done : (n : ℕ) → k ≤ n → n ≤ k → WrittenAt (join_below n f) i t j u
-    written-done n = by_end (λ m. WrittenAt (join_below m f) i t j u) w
+    pub written_done : (n : ℕ) → k ≤ n → n ≤ k → WrittenAt (join_below n f) i t j u
+    written_done n = by_end (λ m. WrittenAt (join_below m f) i t j u) w
 
     -- there is space for n of them
     module _ (n : ℕ) (h : i + length (join_below n f) ≤ length t) where
       pub written-length : k ≤ n → length u ≡ length t
       written-length b = stored-length t i (join_below k f) w.1 w.0 (omega (arith, w.0, length-join_below-le f n b))
 
-      pub written-fits : {x : List ℕ} → k < n → x ≡ f k → j + length x ≤ length u
-      written-fits b e =
+      pub written_fits : {x : List ℕ} → k < n → x ≡ f k → j + length x ≤ length u
+      written_fits b e =
           let more = ap length (join_below-next k f) ∙ length-append (join_below k f) (f k) in
           omega (arith, written-length (omega arith), w.0, ap length e, more, length-join_below-le f {i = k + 1} n (omega arith))
 
@@ -174,12 +174,12 @@ module _ (t : List ℕ) (i : ℕ) (l : List ℕ) where
     next : i + k ≡ i + length (take k l)
     next = ap (λ n. i + n) (sym (length-take-le k l w.0))
 
-    pub copied-length : i + length l ≤ length t → length u ≡ length t
-    copied-length h = stored-length t i (take k l) w.1 next (omega (arith, w.0))
+    pub copied_length : i + length l ≤ length t → length u ≡ length t
+    copied_length h = stored-length t i (take k l) w.1 next (omega (arith, w.0))
 
-    pub copied-entry : {j : ℕ} → j ≡ i + k → i + length l ≤ length t → k < length l → Copied t i l (set u j (at l k)) (k + 1)
-    copied-entry e h b =
-        (omega arith, stored-entry t i (take k l) w.1 (e ∙ next) (at l k) (omega arith) ∙ ap (put t i) (sym (take_next k l b)))
+    pub copied_entry : {j : ℕ} → j ≡ i + k → i + length l ≤ length t → k < length l → Copied t i l (set u j (at l k)) (k + 1)
+    copied_entry e h b =
+        (omega arith, stored_entry t i (take k l) w.1 (e ∙ next) (at l k) (omega arith) ∙ ap (put t i) (sym (take_next k l b)))
 
     pub copied_all : length l ≤ k → u ≡ put t i l
     copied_all h = w.1 ∙ ap (put t i) (take_all k l h)

@@ -1,7 +1,7 @@
 -- Three buses with one-way lines, computed.
 use mathlib.Core.List.{List, [], ◌∷◌, map, flat_map}
 use Rattle.std.specs.Prelude.{◌≡◌, refl, ℕ}
-use Rattle.lists.specs.Lists.{sumBy, at}
+use Rattle.lists.specs.Lists.{sum_by, at}
 use Rattle.lists.specs.Below.{all_below, largest_below, join_below, map_below, list_below, range}
 use Rattle.refusals.specs.Outcomes.{gives, refuses}
 use Rattle.fraction.specs.Divisors.{gcd_of, lcm_of, lcm_all}
@@ -29,6 +29,6 @@ unfolding feeder holds_one_way stored_numerators numerator_over own_term neighbo
 feeder-shares = (refl, refl, refl, refl, refl)
 
 -- the gains of each bus over the six orders are its numerators
-by_orders : map (λ v. sumBy (gain (game_of (feeder 1)) (range 3) v) (orders (range 3))) (0 ∷ 1 ∷ 2 ∷ []) ≡ 11 ∷ 5 ∷ 2 ∷ []
+by_orders : map (λ v. sum_by (gain (game_of (feeder 1)) (range 3) v) (orders (range 3))) (0 ∷ 1 ∷ 2 ∷ []) ≡ 11 ∷ 5 ∷ 2 ∷ []
 unfolding feeder gain value seen row row_at needs weights starts neighbour_numbers at map_below join_below flat_map
 by_orders = refl

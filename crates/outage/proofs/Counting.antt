@@ -18,7 +18,7 @@ use Rattle.lists.specs.ListBelow.{join_below_passing, list_below_by}
 use Rattle.table_spec.specs.Limits.{max_buses}
 use Rattle.table_spec.specs.Layout.{bus_count, row, lines}
 use Rattle.table_spec.specs.Holds.{Holds}
-use Rattle.table_spec.specs.Rows.{row-valid}
+use Rattle.table_spec.specs.Rows.{row_valid}
 use Rattle.table_spec.specs.Lines.{pair_number, pairs, lower_end, upper_end}
 use Rattle.table_spec.specs.LinePairs.{pairs-joined, neighbour-below, length_pairs}
 use Rattle.outage.specs.StudyWork.{Above}
@@ -70,7 +70,7 @@ module _ {t : List ℕ} (w : Holds t) {i k : ℕ} (b : i < bus_count t) {r : Lis
   pairs-listed =
       join_below_passing (λ j. pair_number i j ∷ []) (λ j. ltb i j && has j (row t i)) n
       ∙ ap (λ l. join_below (length l) (λ j. pair_number i (at l j) ∷ []))
-      (list_below_by n (λ j. ltb i j && has j (row t i)) (drop k r) (ascends_drop k r (rw er (row-valid w.shape i b).ascends)) has_above)
+      (list_below_by n (λ j. ltb i j && has j (row t i)) (drop k r) (ascends_drop k r (rw er (row_valid w.shape i b).ascends)) has_above)
       ∙ ap (λ m. join_below m (λ j. pair_number i (at (drop k r) j) ∷ [])) (length-drop k r)
       ∙ ap (λ f. join_below (length r - k) (λ j. pair_number i (f j) ∷ [])) (fun_ext (at_drop k r))
 
@@ -94,19 +94,19 @@ module _ {t : List ℕ} (w : Holds t) {i k : ℕ} (b : i < bus_count t) {r : Lis
       upper-below =
           omega (arith, below (at r (k + rest)) (in_has _ r (in_at r (k + rest) (omega (arith, above.inside)))), w.shape.complete.most)
 
-      pub lower-found : i ≡ lower_end t line
-      lower-found = omega (arith, pair_is, upper-below)
+      pub lower_found : i ≡ lower_end t line
+      lower_found = omega (arith, pair_is, upper-below)
 
-      pub upper-found : {x : ℕ} → x ≡ at r (k + rest) → x ≡ upper_end t line
-      upper-found q = omega (arith, pair_is, upper-below)
+      pub upper_found : {x : ℕ} → x ≡ at r (k + rest) → x ≡ upper_end t line
+      upper_found q = omega (arith, pair_is, upper-below)
 
     -- or behind them
     module _ (l : length r - k ≤ rest) where
       pub counted_next : rest - (length r - k) + lines_before t (i + 1) ≡ line
       counted_next = omega (arith, many, e, ap length (join_below-next i (pairs_at t)), length-append (join_below i (pairs_at t)) (pairs_at t i))
 
-      pub bus-left : line < lines t → i + 1 < n
-      bus-left h =
+      pub bus_left : line < lines t → i + 1 < n
+      bus_left h =
           split (ltb (i + 1) n) (ltb-true (i + 1) n)
           (λ g. let z : i + 1 ≡ n = omega (arith, ltb-false (i + 1) n g) in
           absurd (omega (

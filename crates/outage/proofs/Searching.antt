@@ -11,7 +11,7 @@ use Rattle.lists.specs.Lists.{without, at, Ascending, WrittenAt}
 use Rattle.lists.specs.Places.{take_next}
 use Rattle.lists.specs.Loops.{last_or}
 use Rattle.lists.specs.Without.{without-append, length-without-le}
-use Rattle.lists.specs.Writes.{length-put, stored-entry}
+use Rattle.lists.specs.Writes.{length-put, stored_entry}
 use Rattle.outage.specs.StudyWork.{Above}
 
 -- ---- the search: buses before place `low` are not above the bus, and those from place `high` on are
@@ -32,16 +32,16 @@ search_start r bus e = record {
 
 -- x is the bus in the middle
 module _ {r : List ℕ} (up : Ascending r) {bus low high middle x : ℕ} (w : Between r bus low high) (l : low ≤ middle) (m : middle < high) (e : x ≡ at r middle) where
-  pub search-up : x ≤ bus → Between r bus (middle + 1) high
-  search-up h = record {
+  pub search_up : x ≤ bus → Between r bus (middle + 1) high
+  search_up h = record {
     ordered = omega arith;
     inside = w.inside;
     before = λ i b. ⊎_elim (λ q. omega (arith, ap (at r) q)) (λ c. omega (arith, up i middle c (omega (arith, w.inside)))) (last_or {i = i} {n = middle} (omega arith));
     behind = w.behind;
   }
 
-  pub search-down : bus < x → Between r bus low middle
-  search-down h = record {
+  pub search_down : bus < x → Between r bus low middle
+  search_down h = record {
     ordered = l;
     inside = omega (arith, w.inside);
     before = w.before;
@@ -54,14 +54,14 @@ search_end w h = record { inside = omega (arith, w.ordered, w.inside); before = 
 -- ---- leaving one out: of the first k buses of r those that are not `bus` were copied to the front of t, which left u; x is the next
 
 module _ (r : List ℕ) (bus k : ℕ) (t : List ℕ) {many : ℕ} {u : List ℕ} (w : WrittenAt (without (bus ∷ []) (take k r)) 0 t many u) where
-  pub copied-length : k ≤ length r → length r ≤ length t → length u ≡ length t
-  copied-length l h =
+  pub copied_length : k ≤ length r → length r ≤ length t → length u ≡ length t
+  copied_length l h =
       ap length w.1
       ∙ length-put t 0 (without (bus ∷ []) (take k r)) (omega (arith, length-without-le (bus ∷ []) (take k r), length-take-le k r l))
 
   module _ (b : k < length r) where
-    pub many-le : many ≤ k
-    many-le = omega (arith, w.0, length-without-le (bus ∷ []) (take k r), length-take-le k r (omega arith))
+    pub many_le : many ≤ k
+    many_le = omega (arith, w.0, length-without-le (bus ∷ []) (take k r), length-take-le k r (omega arith))
 
     module _ {x : ℕ} (e : x ≡ at r k) where
       more : without (bus ∷ []) (take (k + 1) r) ≡ without (bus ∷ []) (take k r) ++ without (bus ∷ []) (x ∷ [])
@@ -71,7 +71,7 @@ module _ (r : List ℕ) (bus k : ℕ) (t : List ℕ) {many : ℕ} {u : List ℕ}
       copied_next q h =
           let next : without (bus ∷ []) (take (k + 1) r) ≡ without (bus ∷ []) (take k r) ++ (x ∷ []) = more ∙ rw (ne_eqb x bus q) in (
             omega (arith, w.0, ap length next, length-append (without (bus ∷ []) (take k r)) (x ∷ [])),
-            rw (next, ← e) (stored-entry t 0 (without (bus ∷ []) (take k r)) w.1 w.0 x (omega (arith, many-le))),
+            rw (next, ← e) (stored_entry t 0 (without (bus ∷ []) (take k r)) w.1 w.0 x (omega (arith, many_le))),
           )
 
       pub left_out : x ≡ bus → WrittenAt (without (bus ∷ []) (take (k + 1) r)) 0 t many u

@@ -20,8 +20,8 @@ use Rattle.share_terms.specs.Unit.{Divided}
 use Rattle.two_way.specs.TwoWay.{network_of}
 use Rattle.outage_spec.specs.Outage.{without_pair, without_line, change_over}
 use Rattle.outage_spec.specs.StudyOutcome.{Line}
-use Rattle.outage_spec.specs.WeakenedTable.{lower-inside, weak-buses, lower-row, upper-row}
-use Rattle.outage_spec.specs.EndTerms.{ends_with, ends_without, change-by-ends, ends-with-le, ends-without-le}
+use Rattle.outage_spec.specs.WeakenedTable.{lower_inside, weak_buses, lower_row, upper-row}
+use Rattle.outage_spec.specs.EndTerms.{ends_with, ends_without, change_by_ends, ends_with_le, ends_without-le}
 use Rattle.outage_spec.specs.StudyDue.{line_named}
 use Rattle.outage.specs.StudyWork.{Room}
 
@@ -44,34 +44,34 @@ module _ {t : List ℕ} (w : Holds t) {k a b : ℕ} (l : k < lines t) (ea : a �
   weak : Over (without_pair t a b) L
   weak = rw (ea, eb) p
 
-  pub lower-divided : Divided (length (without (b ∷ []) (row t a))) L
-  lower-divided =
-      record { divided = rw (lower-row w line) at (weak.divided a (omega (arith, weak-buses w line, lower-inside w line))); bounded = o.bounded }
+  pub lower_divided : Divided (length (without (b ∷ []) (row t a))) L
+  lower_divided =
+      record { divided = rw (lower_row w line) at (weak.divided a (omega (arith, weak_buses w line, lower_inside w line))); bounded = o.bounded }
 
-  pub upper-divided : Divided (length (without (a ∷ []) (row t b))) L
-  upper-divided =
-      record { divided = rw (upper-row w line) at (weak.divided b (omega (arith, weak-buses w line, line.inside))); bounded = o.bounded }
+  pub upper_divided : Divided (length (without (a ∷ []) (row t b))) L
+  upper_divided =
+      record { divided = rw (upper-row w line) at (weak.divided b (omega (arith, weak_buses w line, line.inside))); bounded = o.bounded }
 
   -- the sums of the first end have room for those of the second
-  pub with-room : (n : ℕ) {x : List ℕ} → Added (terms_from (weight t a) (need t a) (row t a) L a) (replicate n 0) x → Room (max_weight * L) x
-  with-room n first v = omega (arith, first.each v, at-zeros n v, ends-with-le w line L o weak v, o.bounded)
+  pub with_room : (n : ℕ) {x : List ℕ} → Added (terms_from (weight t a) (need t a) (row t a) L a) (replicate n 0) x → Room (max_weight * L) x
+  with_room n first v = omega (arith, first.each v, at-zeros n v, ends_with_le w line L o weak v, o.bounded)
 
-  pub without-room : (n : ℕ) {x : List ℕ} → Added (terms_from (weight t a) (need t a) (without (b ∷ []) (row t a)) L a) (replicate n 0) x → Room (max_weight * L) x
-  without-room n first v = omega (arith, first.each v, at-zeros n v, ends-without-le w line L o weak v, o.bounded)
+  pub without_room : (n : ℕ) {x : List ℕ} → Added (terms_from (weight t a) (need t a) (without (b ∷ []) (row t a)) L a) (replicate n 0) x → Room (max_weight * L) x
+  without_room n first v = omega (arith, first.each v, at-zeros n v, ends_without-le w line L o weak v, o.bounded)
 
   -- the sums x with the line and y without it
   module _ (x y : List ℕ) (before : (v : ℕ) → at x v ≡ ends_with t a b L v) (after : (v : ℕ) → at y v ≡ ends_without t a b L v) where
-    pub sums-fit : (v : ℕ) → (at x v < 2 ^ 63) × (at y v < 2 ^ 63)
-    sums-fit v =
-        (omega (arith, before v, ends-with-le w line L o weak v, o.bounded), omega (arith, after v, ends-without-le w line L o weak v, o.bounded))
+    pub sums_fit : (v : ℕ) → (at x v < 2 ^ 63) × (at y v < 2 ^ 63)
+    sums_fit v =
+        (omega (arith, before v, ends_with_le w line L o weak v, o.bounded), omega (arith, after v, ends_without-le w line L o weak v, o.bounded))
 
-    pub changes-stored : (n : ℕ) (c : List ℤ) {d : List ℤ} → n ≡ bus_count t → d ≡ signed_below n (λ v. difference (at y v) (at x v)) ++ drop n c
+    pub changes_stored : (n : ℕ) (c : List ℤ) {d : List ℤ} → n ≡ bus_count t → d ≡ signed_below n (λ v. difference (at y v) (at x v)) ++ drop n c
         → d ≡ signed_below (bus_count t) (change_over (network_of t) (network_of (without_line t k)) L) ++ drop (bus_count t) c
-    changes-stored n c en e =
+    changes_stored n c en e =
         e
         ∙ ap (λ m. signed_below m (λ v. difference (at y v) (at x v)) ++ drop m c) en
         ∙ ap (λ l. l ++ drop (bus_count t) c)
         (signed_below-same _ _ (bus_count t) λ v m.
         ap₂ difference (after v) (before v)
-        ∙ sym (change-by-ends w line L v m)
+        ∙ sym (change_by_ends w line L v m)
         ∙ ap₂ (λ i j. change_over (network_of t) (network_of (without_pair t i j)) L v) ea eb)

@@ -23,16 +23,16 @@ module _ (bus : ℕ) (change : ℤ) (t : List ℕ) (i : ℕ) (room : i + length 
   long : length (line_of bus change) ≡ length first + length (signed_decimal change) + 1
   long = sym (ap length (parts bus change)) ∙ length-append (first ++ signed_decimal change) (10 ∷ []) ∙ ap (λ n. n + 1) (length-append first (signed_decimal change))
 
-  pub bus-fits : i + length first ≤ length t
-  bus-fits = omega (arith, long)
+  pub bus_fits : i + length first ≤ length t
+  bus_fits = omega (arith, long)
 
   -- the bus and the space are written
   module _ {j : ℕ} {u : List ℕ} (w : WrittenAt first i t j u) where
     kept : length u ≡ length t
     kept = stored-length t i first w.1 w.0 (omega (arith, w.0, long))
 
-    pub digits-fit : {r : ℤ} → r ≡ change → j + length (signed_decimal r) ≤ length u
-    digits-fit q = omega (arith, ap (λ z. length (signed_decimal z)) q, w.0, long, kept)
+    pub digits_fit : {r : ℤ} → r ≡ change → j + length (signed_decimal r) ≤ length u
+    digits_fit q = omega (arith, ap (λ z. length (signed_decimal z)) q, w.0, long, kept)
 
     -- and the change
     module _ {r : ℤ} {e : ℕ} {v : List ℕ} (q : r ≡ change) (more : WrittenAt (signed_decimal r) j u e v) where
@@ -45,10 +45,10 @@ module _ (bus : ℕ) (change : ℤ) (t : List ℕ) (i : ℕ) (room : i + length 
       still : length v ≡ length t
       still = stored-length t i (first ++ signed_decimal change) both.1 both.0 (omega (arith, end_fits))
 
-      pub end-inside : e < length v
-      end-inside = omega (arith, end_fits, still)
+      pub end_inside : e < length v
+      end_inside = omega (arith, end_fits, still)
 
       pub line-written : WrittenAt (line_of bus change) i t (e + 1) (set v e 10)
       line-written =
           subst (λ l. WrittenAt l i t (e + 1) (set v e 10)) (parts bus change)
-          (written-append t i (first ++ signed_decimal change) (10 ∷ []) (omega arith) both (written_entry v e 10 end-inside))
+          (written-append t i (first ++ signed_decimal change) (10 ∷ []) (omega arith) both (written_entry v e 10 end_inside))

@@ -7,13 +7,13 @@ use Rattle.refused_line.specs.RefusedLine.{text_or}
 use Rattle.table_spec.specs.Limits.{max_bytes, max_entries}
 use Rattle.file_spec.specs.FileBytes.{word_at}
 use Rattle.read_spec.specs.ReadOutcome.{file_table}
-use Rattle.read_spec.specs.ReadFront.{long_refused, front-refused, by_front}
+use Rattle.read_spec.specs.ReadFront.{long_refused, front_refused, by_front}
 use Rattle.outage_report.specs.OutageReport.{studied, file_studied, printed}
 
 file_front : (k : ℕ) (f : List ℕ) → file_studied (take (max_bytes + 1) f) k ≡ file_studied f k
 file_front k =
     by_front (λ f. file_studied f k) λ f l.
-    ap (λ o. text_or o (studied (file_table (take (max_bytes + 1) f)) k)) (front-refused f l max_entries)
+    ap (λ o. text_or o (studied (file_table (take (max_bytes + 1) f)) k)) (front_refused f l max_entries)
     ∙ sym (ap (λ o. text_or o (studied (file_table f) k)) (long_refused f max_entries l))
 
 -- behind its first two entries, the front of a list has two fewer

@@ -18,11 +18,11 @@ use Rattle.outage_report.specs.OutageReport.{line_of, change_lines, studied, fil
 
 -- the study was lent m entries, enough for any network
 module _ (t : List ℕ) (k : ℕ) {m : ℕ} (room : m ≡ max_buses) where
-  pub print-changes : {L : ℕ} → study_outcome t k m ≡ gives L → change_lines t k ≡ studied t k
-  print-changes e = sym (ap (λ o. text_or o (change_lines t k)) (rw room at e))
+  pub print_changes : {L : ℕ} → study_outcome t k m ≡ gives L → change_lines t k ≡ studied t k
+  print_changes e = sym (ap (λ o. text_or o (change_lines t k)) (rw room at e))
 
-  pub print-refused-line : {r : ℕ} → study_outcome t k m ≡ refuses r → refused_line r ≡ studied t k
-  print-refused-line e = sym (ap (λ o. text_or o (change_lines t k)) (rw room at e))
+  pub print_refused_line : {r : ℕ} → study_outcome t k m ≡ refuses r → refused_line r ≡ studied t k
+  print_refused_line e = sym (ap (λ o. text_or o (change_lines t k)) (rw room at e))
 
 -- slices that hold the same network get the same text
 same-studied : {a b : List ℕ} → SameNetwork a b → (k : ℕ) → studied a k ≡ studied b k
@@ -30,11 +30,11 @@ same-studied w k = ap₂ text_or (same_outcome w k max_buses) (ap₂ (λ n f. jo
 
 -- Read was lent x, which has room for any table
 module _ (f : List ℕ) (k : ℕ) (x : List ℕ) (room : length x ≡ max_entries) where
-  pub print-studied : {c : Counts} → read_outcome f (length x) ≡ gives c → studied (table_after f x) k ≡ file_studied f k
-  print-studied e = same-studied (stored_same f x e) k ∙ sym (ap (λ o. text_or o (studied (file_table f) k)) (rw room at e))
+  pub print_studied : {c : Counts} → read_outcome f (length x) ≡ gives c → studied (table_after f x) k ≡ file_studied f k
+  print_studied e = same-studied (stored_same f x e) k ∙ sym (ap (λ o. text_or o (studied (file_table f) k)) (rw room at e))
 
-  pub print-refused-file : {r : ℕ} → read_outcome f (length x) ≡ refuses r → refused_line r ≡ file_studied f k
-  print-refused-file e = sym (ap (λ o. text_or o (studied (file_table f) k)) (rw room at e))
+  pub print_refused_file : {r : ℕ} → read_outcome f (length x) ≡ refuses r → refused_line r ≡ file_studied f k
+  print_refused_file e = sym (ap (λ o. text_or o (studied (file_table f) k)) (rw room at e))
 
 -- the input is too short for a line number
 pub print_short : (input : List ℕ) → length input < 2 → refused_line 1 ≡ printed input

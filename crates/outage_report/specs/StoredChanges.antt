@@ -9,16 +9,16 @@ use Rattle.lists.specs.Below.{join_below}
 use Rattle.lists.specs.JoinBelow.{join_below-same}
 use Rattle.signed.specs.Signed.{signed_below, signed_at}
 use Rattle.signed.specs.SignedLists.{length-signed_below, signed_below-at}
-use Rattle.refusals.specs.Outcomes.{gives, valuesOr}
+use Rattle.refusals.specs.Outcomes.{gives, values_or}
 use Rattle.refusals.specs.Causes.{NoneHolds, no_cause, none-gives}
 use Rattle.table_spec.specs.Layout.{bus_count, lines}
 use Rattle.table_spec.specs.Holds.{holds}
-use Rattle.table_spec.specs.Facts.{holds-facts}
+use Rattle.table_spec.specs.Facts.{holds_facts}
 use Rattle.share_spec.specs.Network.{denominator}
 use Rattle.two_way.specs.TwoWay.{network_of}
 use Rattle.outage_spec.specs.Outage.{change}
 use Rattle.outage_spec.specs.StudyOutcome.{study_causes, study_outcome, stored_changes, changes_after}
-use Rattle.outage_spec.specs.StudyDue.{change-small}
+use Rattle.outage_spec.specs.StudyDue.{change_small}
 use Rattle.outage_report.specs.OutageReport.{line_of, lines_of, change_lines}
 use Rattle.outage_report.specs.ChangeRoom.{Small}
 
@@ -30,7 +30,7 @@ module _ (t : List ℕ) (k : ℕ) (x : List ℤ) {n L : ℕ} {changes : List ℤ
   front : take n changes ≡ signed_below (bus_count t) (change t k)
   unfolding stored_changes
   front =
-      ap₂ take e (s ∙ ap (valuesOr x) (none-gives (study_causes (network_of t) k (length x)) (stored_changes t k x) none))
+      ap₂ take e (s ∙ ap (values_or x) (none-gives (study_causes (network_of t) k (length x)) (stored_changes t k x) none))
       ∙ take_at (signed_below (bus_count t) (change t k)) _ (bus_count t) (length-signed_below (bus_count t) (change t k))
 
   front_at : (v : ℕ) → v < bus_count t → signed_at (take n changes) v ≡ change t k v
@@ -40,13 +40,13 @@ module _ (t : List ℕ) (k : ℕ) (x : List ℤ) {n L : ℕ} {changes : List ℤ
   pub front_long : length (take n changes) ≡ bus_count t
   front_long = ap length front ∙ length-signed_below (bus_count t) (change t k)
 
-  pub front-small : Small (take n changes)
-  front-small =
+  pub front_small : Small (take n changes)
+  front_small =
       let h : holds t ≡ true = not-false _ none.0 in
       let b : k < lines t = ltb-true k (lines t) (not-false _ none.1.0) in
       record {
-        most = omega (arith, front_long, (holds-facts t h).shape.complete.most);
-        each = λ v l. let m : v < bus_count t = omega (arith, front_long) in rw (front_at v m) (change-small t h k b v m);
+        most = omega (arith, front_long, (holds_facts t h).shape.complete.most);
+        each = λ v l. let m : v < bus_count t = omega (arith, front_long) in rw (front_at v m) (change_small t h k b v m);
       }
 
   pub front-lines : lines_of (take n changes) ≡ change_lines t k

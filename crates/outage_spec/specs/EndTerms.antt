@@ -15,7 +15,7 @@ use Rattle.two_way.specs.TwoWay.{network_of}
 use Rattle.two_way.specs.TwoWaySound.{watching}
 use Rattle.outage_spec.specs.Outage.{without_pair, change_over}
 use Rattle.outage_spec.specs.StudyOutcome.{Line}
-use Rattle.outage_spec.specs.WeakenedTable.{lower-inside, weak-buses, weak-need, weak-weight, lower-row, upper-row, other_row, weak-scored}
+use Rattle.outage_spec.specs.WeakenedTable.{lower_inside, weak_buses, weak_need, weak_weight, lower_row, upper-row, other_row, weak_scored}
 
 -- what the ends a and b of a line give to bus v with the line, and without it
 abbrev pub ends_with : List ℕ → ℕ → ℕ → ℕ → ℕ → ℕ
@@ -28,54 +28,54 @@ module _ {t : List ℕ} (w : Holds t) {a b : ℕ} (line : Line t a b) (L : ℕ) 
   abbrev s : List ℕ
   s = without_pair t a b
 
-  with-terms : (v : ℕ) → term_to (game_of t) L a v + term_to (game_of t) L b v ≡ ends_with t a b L v
-  with-terms v = ap₂ ◌+◌ (term_by_row t L a v) (term_by_row t L b v)
+  with_terms : (v : ℕ) → term_to (game_of t) L a v + term_to (game_of t) L b v ≡ ends_with t a b L v
+  with_terms v = ap₂ ◌+◌ (term_by_row t L a v) (term_by_row t L b v)
 
   -- bus u, whose row is r without the line
-  weak-terms : (u v : ℕ) {r : List ℕ} → row s u ≡ r → term_to (game_of s) L u v ≡ terms_from (weight t u) (need t u) r L u v
-  weak-terms u v e =
-      term_by_row s L u v ∙ ap₂ (λ m k. terms_from m k (row s u) L u v) (weak-weight w line u) (weak-need w line u) ∙ ap (λ r. terms_from (weight t u) (need t u) r L u v) e
+  weak_terms : (u v : ℕ) {r : List ℕ} → row s u ≡ r → term_to (game_of s) L u v ≡ terms_from (weight t u) (need t u) r L u v
+  weak_terms u v e =
+      term_by_row s L u v ∙ ap₂ (λ m k. terms_from m k (row s u) L u v) (weak_weight w line u) (weak_need w line u) ∙ ap (λ r. terms_from (weight t u) (need t u) r L u v) e
 
-  without-terms : (v : ℕ) → term_to (game_of s) L a v + term_to (game_of s) L b v ≡ ends_without t a b L v
-  without-terms v = ap₂ ◌+◌ (weak-terms a v (lower-row w line)) (weak-terms b v (upper-row w line))
+  without_terms : (v : ℕ) → term_to (game_of s) L a v + term_to (game_of s) L b v ≡ ends_without t a b L v
+  without_terms v = ap₂ ◌+◌ (weak_terms a v (lower_row w line)) (weak_terms b v (upper-row w line))
 
   -- every other bus gives as before
-  other-terms : (u v : ℕ) → u < bus_count t → (u ≡ a → ⊥) → (u ≡ b → ⊥) → term_to (game_of s) L u v ≡ term_to (game_of t) L u v
-  other-terms u v l p q = weak-terms u v (other_row w line u l p q) ∙ sym (term_by_row t L u v)
+  other_terms : (u v : ℕ) → u < bus_count t → (u ≡ a → ⊥) → (u ≡ b → ⊥) → term_to (game_of s) L u v ≡ term_to (game_of t) L u v
+  other_terms u v l p q = weak_terms u v (other_row w line u l p q) ∙ sym (term_by_row t L u v)
 
-  numerators-moved : (v : ℕ) → v < bus_count t → numerator_over (network_of s) L v + ends_with t a b L v ≡ ends_without t a b L v + numerator_over (network_of t) L v
-  numerators-moved v l =
-      let c = weak-scored w line in
-      let n = weak-buses w line in
+  numerators_moved : (v : ℕ) → v < bus_count t → numerator_over (network_of s) L v + ends_with t a b L v ≡ ends_without t a b L v + numerator_over (network_of t) L v
+  numerators_moved v l =
+      let c = weak_scored w line in
+      let n = weak_buses w line in
       omega (
         arith,
         numerator-given (watching w.shape w.mirrored) L v l,
         numerator-given (watching c.shape c.mirrored) L v (omega (arith, n)),
         ap (λ m. given_by (game_of s) L m v) n,
-        sum_below_but_two (λ u. term_to (game_of s) L u v) (λ u. term_to (game_of t) L u v) (bus_count t) a b (lower-inside w line) line.inside
-            (λ e. omega (arith, line.ascends)) (λ u m. other-terms u v m),
-        with-terms v,
-        without-terms v,
+        sum_below_but_two (λ u. term_to (game_of s) L u v) (λ u. term_to (game_of t) L u v) (bus_count t) a b (lower_inside w line) line.inside
+            (λ e. omega (arith, line.ascends)) (λ u m. other_terms u v m),
+        with_terms v,
+        without_terms v,
       )
 
   -- THE CHANGE IS THE ENDS'
-  pub change-by-ends : (v : ℕ) → v < bus_count t → change_over (network_of t) (network_of s) L v ≡ difference (ends_without t a b L v) (ends_with t a b L v)
+  pub change_by_ends : (v : ℕ) → v < bus_count t → change_over (network_of t) (network_of s) L v ≡ difference (ends_without t a b L v) (ends_with t a b L v)
   unfolding change_over
-  change-by-ends v l = difference-same _ _ _ _ (numerators-moved v l)
+  change_by_ends v l = difference-same _ _ _ _ (numerators_moved v l)
 
   -- L makes the terms whole with the line and without it
   module _ (o : Over t L) (p : Over s L) where
-    pub ends-with-le : (v : ℕ) → ends_with t a b L v ≤ 2 * max_weight * L
-    ends-with-le v = omega (arith, with-terms v, given-le w.shape o a v (lower-inside w line), given-le w.shape o b v line.inside)
+    pub ends_with_le : (v : ℕ) → ends_with t a b L v ≤ 2 * max_weight * L
+    ends_with_le v = omega (arith, with_terms v, given-le w.shape o a v (lower_inside w line), given-le w.shape o b v line.inside)
 
-    pub ends-without-le : (v : ℕ) → ends_without t a b L v ≤ 2 * max_weight * L
-    ends-without-le v =
-        let c = (weak-scored w line).shape in
-        let n = weak-buses w line in
-        omega (arith, without-terms v, given-le c p a v (omega (arith, n, lower-inside w line)), given-le c p b v (omega (arith, n, line.inside)))
+    pub ends_without-le : (v : ℕ) → ends_without t a b L v ≤ 2 * max_weight * L
+    ends_without-le v =
+        let c = (weak_scored w line).shape in
+        let n = weak_buses w line in
+        omega (arith, without_terms v, given-le c p a v (omega (arith, n, lower_inside w line)), given-le c p b v (omega (arith, n, line.inside)))
 
     -- so no change is above twice the highest weight times L, up or down
     pub change-le : (v : ℕ) → v < bus_count t → nat_abs (change_over (network_of t) (network_of s) L v) ≤ 2 * max_weight * L
     change-le v l =
-        subst (λ z. nat_abs z ≤ 2 * max_weight * L) (sym (change-by-ends v l))
-        (difference_abs (2 * max_weight * L) (ends_without t a b L v) (ends_with t a b L v) (ends-without-le v) (ends-with-le v))
+        subst (λ z. nat_abs z ≤ 2 * max_weight * L) (sym (change_by_ends v l))
+        (difference_abs (2 * max_weight * L) (ends_without t a b L v) (ends_with t a b L v) (ends_without-le v) (ends_with_le v))

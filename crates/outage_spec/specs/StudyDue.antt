@@ -13,26 +13,26 @@ use Rattle.game.specs.EveryOrder.{every_order_once}
 use Rattle.table_spec.specs.Limits.{max_weight}
 use Rattle.table_spec.specs.Layout.{bus_count, row, lines}
 use Rattle.table_spec.specs.Holds.{holds, Holds}
-use Rattle.table_spec.specs.Facts.{holds-facts}
+use Rattle.table_spec.specs.Facts.{holds_facts}
 use Rattle.table_spec.specs.Lines.{lower_end, upper_end}
-use Rattle.table_spec.specs.LinePairs.{pairs-in, neighbour-below, length_pairs}
-use Rattle.table_spec.specs.TableCauses.{on-held}
+use Rattle.table_spec.specs.LinePairs.{pairs_in, neighbour-below, length_pairs}
+use Rattle.table_spec.specs.TableCauses.{on_held}
 use Rattle.share_spec.specs.Network.{denominator}
 use Rattle.share_spec.specs.TableNetwork.{max_denominator, Over}
-use Rattle.share_spec.specs.Denominator.{common-denominator}
-use Rattle.share_spec.specs.TableGame.{own-over, over-whole}
+use Rattle.share_spec.specs.Denominator.{common_denominator}
+use Rattle.share_spec.specs.TableGame.{own_over, over_whole}
 use Rattle.two_way.specs.TwoWay.{network_of}
 use Rattle.two_way.specs.TwoWaySound.{watching}
 use Rattle.outage_spec.specs.Outage.{without_line, change_over, change}
 use Rattle.outage_spec.specs.StudyOutcome.{study_causes, study_outcome, stored_changes, changes_after, Line, AllStudied}
-use Rattle.outage_spec.specs.WeakenedTable.{weak-buses, same-weight, weak-scored, line-lost, weak-over}
+use Rattle.outage_spec.specs.WeakenedTable.{weak_buses, same-weight, weak_scored, line_lost, weak_over}
 use Rattle.outage_spec.specs.EndTerms.{change-le}
-use Rattle.outage_spec.specs.ChangeClaims.{changes-none, change-fair, change-far}
+use Rattle.outage_spec.specs.ChangeClaims.{changes_none, change_fair, change_far}
 
 -- EACH NUMBER BELOW THE LINE COUNT NAMES A LINE
 pub line_named : {t : List ℕ} → Holds t → (k : ℕ) → k < lines t → Line t (lower_end t k) (upper_end t k)
 line_named {t} w k l =
-    let p = pairs-in (bus_count t) (row t) k (omega (arith, length_pairs t w)) in
+    let p = pairs_in (bus_count t) (row t) k (omega (arith, length_pairs t w)) in
     record { ascends = p.1; inside = neighbour-below t w (lower_end t k) (upper_end t k) p.0 p.2; joined = p.2 }
 
 -- where entries that held x are lent
@@ -43,11 +43,11 @@ StudyDue t k x = Due (study_causes (network_of t) k (length x)) (denominator (ne
 
 module _ (t : List ℕ) (k : ℕ) (x : List ℤ) (h : holds t ≡ true) {m : ℕ} (em : m ≡ lines t) where
   pub no_line : m ≤ k → StudyDue t k x (refuses 18) x
-  no_line g = on-held h (stop (ap not (le-ltb k (lines t) (omega arith))))
+  no_line g = on_held h (stop (ap not (le-ltb k (lines t) (omega arith))))
 
   module _ (b : k < m) {n : ℕ} (en : n ≡ bus_count t) where
     named : {o : Outcome ℕ} {y : List ℤ} → Due ((ltb (length x) (bus_count t) ⇒ NumeratorsTooShort) ∷ []) (denominator (network_of t)) (stored_changes t k x) x o y → StudyDue t k x o y
-    named d = on-held h (pass (ap not (lt-ltb k (lines t) (omega arith))) d)
+    named d = on_held h (pass (ap not (lt-ltb k (lines t) (omega arith))) d)
 
     pub too_few : length x < n → StudyDue t k x (refuses 12) x
     too_few l = named (below refl en l)
@@ -76,22 +76,22 @@ study_due t k x d = both d
 
 module _ (t : List ℕ) (h : holds t ≡ true) (k : ℕ) (b : k < lines t) where
   held : Holds t
-  held = holds-facts t h
+  held = holds_facts t h
 
-  pub line-over : {L : ℕ} → L ≡ denominator (network_of t) → Over t L × Over (without_line t k) L
-  line-over e = (own-over held.shape e, weak-over held (line_named held k b) e)
+  pub line_over : {L : ℕ} → L ≡ denominator (network_of t) → Over t L × Over (without_line t k) L
+  line_over e = (own_over held.shape e, weak_over held (line_named held k b) e)
 
   -- NO CHANGE IS ABOVE 2 L TIMES THE HIGHEST WEIGHT, up or down
-  pub change-small : (v : ℕ) → v < bus_count t → nat_abs (change t k v) ≤ 2 * max_weight * max_denominator
-  change-small v l =
-      let o = line-over refl in
+  pub change_small : (v : ℕ) → v < bus_count t → nat_abs (change t k v) ≤ 2 * max_weight * max_denominator
+  change_small v l =
+      let o = line_over refl in
       omega (arith, change-le held (line_named held k b) (denominator (network_of t)) o.0 o.1 v l, o.0.bounded)
 
   -- entries enough are lent
   module _ (x : List ℤ) (l : bus_count t ≤ length x) where
-    entry-is : (v : ℕ) → v < bus_count t → signed_at (stored_changes t k x) v ≡ change t k v
+    entry_is : (v : ℕ) → v < bus_count t → signed_at (stored_changes t k x) v ≡ change t k v
     unfolding signed_at
-    entry-is v m =
+    entry_is v m =
         ap (λ l. get_or l v (pos 0)) (stored_changes_lem t k x)
         ∙ get_or-append (signed_below (bus_count t) (change t k)) (drop (bus_count t) x) (pos 0) v (omega (arith, length-signed_below (bus_count t) (change t k)))
         ∙ signed_below-at (change t k) (bus_count t) v m
@@ -102,25 +102,25 @@ pub all-studied : (t : List ℕ) (k : ℕ) (x : List ℤ) {o : Outcome ℕ} {aft
 all-studied t k x {after = after} e f h b l =
     let w = held t h k b in
     let line = line_named w k b in
-    let weak = weak-scored w line in
-    let over = line-over t h k b refl in
+    let weak = weak_scored w line in
+    let over = line_over t h k b refl in
     let due = enough t k x h refl b refl l refl refl in
-    let entry : (v : ℕ) → v < bus_count t → signed_at after v ≡ change t k v = λ v m. ap (λ a. signed_at a v) (f ∙ sym due.after) ∙ entry-is t h k b x l v m in
+    let entry : (v : ℕ) → v < bus_count t → signed_at after v ≡ change t k v = λ v m. ap (λ a. signed_at a v) (f ∙ sym due.after) ∙ entry_is t h k b x l v m in
     let full = watching w.shape w.mirrored in
     let left = watching weak.shape weak.mirrored in
-    let n = weak-buses w line in
+    let n = weak_buses w line in
     let L = denominator (network_of t) in
-    let whole = over-whole w.shape over.0 in
-    let still = over-whole weak.shape over.1 in
+    let whole = over_whole w.shape over.0 in
+    let still = over_whole weak.shape over.1 in
     record {
       L = L;
       given = e ∙ sym due.answered;
-      over = common-denominator (network_of t);
+      over = common_denominator (network_of t);
       line = line;
-      weakened = line-lost w line;
+      weakened = line_lost w line;
       every = every_order_once (bus_count t);
-      fair = λ v m. ap (λ z. pos (factorial (bus_count t)) *ℤ z) (entry v m) ∙ change-fair full left n L whole still v m;
+      fair = λ v m. ap (λ z. pos (factorial (bus_count t)) *ℤ z) (entry v m) ∙ change_fair full left n L whole still v m;
       none = total_below-same (signed_at after) (change t k) (bus_count t) entry
-          ∙ changes-none full left n L whole still (same-weight w line);
-      far = λ v m r. entry v m ∙ change-far w line L v m r;
+          ∙ changes_none full left n L whole still (same-weight w line);
+      far = λ v m r. entry v m ∙ change_far w line L v m r;
     }

@@ -1,11 +1,11 @@
 -- What the outage study answers and stores, for every slice and line number, and what its changes come to.
 -- Definitions only.
 use Rattle.std.specs.Prelude.{true, false, not, ◌&&◌, ◌||◌, List, [], ◌∷◌, ◌++◌, ◌≡◌, ℕ, ◌≤◌, ◌<◌, eqb, ltb, ℤ, pos, ◌*ℤ◌, length, drop}
-use Rattle.lists.specs.Lists.{sumBy, has}
+use Rattle.lists.specs.Lists.{sum_by, has}
 use Rattle.lists.specs.Below.{range}
 use Rattle.signed.specs.Signed.{difference, total_below, signed_below, signed_at}
 use Rattle.refusals.specs.declared.Refusal.TheVariants.{NumeratorsTooShort, NoSuchLine}
-use Rattle.refusals.specs.Outcomes.{Outcome, gives, Cause, ◌⇒◌, outcome, valuesOr}
+use Rattle.refusals.specs.Outcomes.{Outcome, gives, Cause, ◌⇒◌, outcome, values_or}
 use Rattle.game.specs.Orders.{orders, factorial, EveryOrderOnce}
 use Rattle.game.specs.Game.{gain}
 use Rattle.table_spec.specs.Layout.{bus_count, row, need, weight, starts, neighbour_numbers, starts_at, lines}
@@ -32,7 +32,7 @@ stored_changes t line x = signed_below (bus_count t) (change t line) ++ drop (bu
 
 -- what entries that held x hold after the call: accepted, the changes are stored; refused, what they held
 abbrev pub changes_after : List ℕ → ℕ → List ℤ → List ℤ
-changes_after t line x = valuesOr x (outcome (study_causes (network_of t) line (length x)) (stored_changes t line x))
+changes_after t line x = values_or x (outcome (study_causes (network_of t) line (length x)) (stored_changes t line x))
 
 -- ---- what is promised of the changes
 
@@ -51,7 +51,7 @@ pub record Far (t : List ℕ) (a b v : ℕ) : Type 0 where
 
 -- the sum of v's gains over all orders of fitting the buses of a network
 abbrev pub gains : Network → ℕ → ℕ
-gains N v = sumBy (gain N.game (range N.buses) v) (orders (range N.buses))
+gains N v = sum_by (gain N.game (range N.buses) v) (orders (range N.buses))
 
 -- a table's network is one that can be scored, and its lines run both ways; whether each need can be met is not asked
 pub record CanBeScored (t : List ℕ) : Type 0 where

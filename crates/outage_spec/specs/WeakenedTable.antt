@@ -11,12 +11,12 @@ use Rattle.lists.specs.Without.{without-none, has_one, has-without, length-witho
 use Rattle.fraction.specs.Divisors.{lcm_all}
 use Rattle.table_spec.specs.Layout.{bus_count, needs, weights, row, degree, need, weight}
 use Rattle.table_spec.specs.Holds.{Holds}
-use Rattle.table_spec.specs.Rows.{length-needs, length-weights, valid_without, row-valid, degree-le}
+use Rattle.table_spec.specs.Rows.{length-needs, length-weights, valid_without, row_valid, degree-le}
 use Rattle.table_spec.specs.LinePairs.{mirror}
-use Rattle.table_spec.specs.Laid.{made-busCount, made-needs, made-weights, made_row, made-scorable, made-mirrored}
+use Rattle.table_spec.specs.Laid.{made-bus_count, made-needs, made-weights, made_row, made_scorable, made-mirrored}
 use Rattle.share_spec.specs.Network.{total_weight}
 use Rattle.share_spec.specs.TableNetwork.{divisors_of, Over}
-use Rattle.share_spec.specs.TableGame.{fewer-divided, own-over}
+use Rattle.share_spec.specs.TableGame.{fewer_divided, own_over}
 use Rattle.two_way.specs.TwoWay.{network_of}
 use Rattle.outage_spec.specs.Outage.{leaving, without_pair}
 use Rattle.outage_spec.specs.StudyOutcome.{Line, CanBeScored, LineLost}
@@ -58,8 +58,8 @@ module _ {a b : ℕ} (apart : a < b) where
   not_both i e = ne_eqb i b (λ q. let p = eqb-true i a e in omega arith)
 
   -- each leaves the row of the other
-  leaving-sym : (i j : ℕ) → has j (leaving a b i) ≡ has i (leaving a b j)
-  leaving-sym i j = has-leaving a b i j ∙ same-leaving (eqb i a) (eqb i b) (eqb j a) (eqb j b) (not_both i) (not_both j) ∙ sym (has-leaving a b j i)
+  leaving_sym : (i j : ℕ) → has j (leaving a b i) ≡ has i (leaving a b j)
+  leaving_sym i j = has-leaving a b i j ∙ same-leaving (eqb i a) (eqb i b) (eqb j a) (eqb j b) (not_both i) (not_both j) ∙ sym (has-leaving a b j i)
 
   upper-leaving : leaving a b b ≡ a ∷ []
   upper-leaving = rw (ne_eqb b a (λ e. omega arith), eqb_self b)
@@ -76,8 +76,8 @@ module _ {t : List ℕ} (w : Holds t) {a b : ℕ} (line : Line t a b) where
   abbrev rows : ℕ → List ℕ
   rows i = without (leaving a b i) (row t i)
 
-  pub lower-inside : a < n
-  lower-inside = omega (arith, line.ascends, line.inside)
+  pub lower_inside : a < n
+  lower_inside = omega (arith, line.ascends, line.inside)
 
   long : length (needs t) ≡ n
   long = length-needs t w.shape.complete
@@ -85,80 +85,80 @@ module _ {t : List ℕ} (w : Holds t) {a b : ℕ} (line : Line t a b) where
   wide : length (weights t) ≡ n
   wide = length-weights t w.shape.complete
 
-  pub weak-buses : bus_count (without_pair t a b) ≡ n
+  pub weak_buses : bus_count (without_pair t a b) ≡ n
   unfolding without_pair
-  weak-buses = rw append-nil at (made-busCount n (needs t) (weights t) rows [] long wide)
+  weak_buses = rw append-nil at (made-bus_count n (needs t) (weights t) rows [] long wide)
 
-  weak-needs : needs (without_pair t a b) ≡ needs t
+  weak_needs : needs (without_pair t a b) ≡ needs t
   unfolding without_pair
-  weak-needs = rw append-nil at (made-needs n (needs t) (weights t) rows [] long wide)
+  weak_needs = rw append-nil at (made-needs n (needs t) (weights t) rows [] long wide)
 
-  pub weak-need : (i : ℕ) → need (without_pair t a b) i ≡ need t i
-  weak-need i = ap (λ q. at q i) weak-needs
+  pub weak_need : (i : ℕ) → need (without_pair t a b) i ≡ need t i
+  weak_need i = ap (λ q. at q i) weak_needs
 
-  weak-weights : weights (without_pair t a b) ≡ weights t
+  weak_weights : weights (without_pair t a b) ≡ weights t
   unfolding without_pair
-  weak-weights = rw append-nil at (made-weights n (needs t) (weights t) rows [] long wide)
+  weak_weights = rw append-nil at (made-weights n (needs t) (weights t) rows [] long wide)
 
-  pub weak-weight : (i : ℕ) → weight (without_pair t a b) i ≡ weight t i
-  weak-weight i = ap (λ v. at v i) weak-weights
+  pub weak_weight : (i : ℕ) → weight (without_pair t a b) i ≡ weight t i
+  weak_weight i = ap (λ v. at v i) weak_weights
 
   pub same-weight : total_weight (network_of (without_pair t a b)) ≡ total_weight (network_of t)
   unfolding total_weight
-  same-weight = ap₂ (λ n v. sum_below n (at v)) weak-buses weak-weights
+  same-weight = ap₂ (λ n v. sum_below n (at v)) weak_buses weak_weights
 
-  weak-row : (i : ℕ) → i < n → row (without_pair t a b) i ≡ rows i
+  weak_row : (i : ℕ) → i < n → row (without_pair t a b) i ≡ rows i
   unfolding without_pair
-  weak-row i l = rw append-nil at (made_row n (needs t) (weights t) rows [] long wide i l)
+  weak_row i l = rw append-nil at (made_row n (needs t) (weights t) rows [] long wide i l)
 
   -- an end's row is without the other end, and every other row is as it was
-  pub lower-row : row (without_pair t a b) a ≡ without (b ∷ []) (row t a)
-  lower-row = weak-row a lower-inside ∙ ap (λ s. without s (row t a)) (lower_leaving a b)
+  pub lower_row : row (without_pair t a b) a ≡ without (b ∷ []) (row t a)
+  lower_row = weak_row a lower_inside ∙ ap (λ s. without s (row t a)) (lower_leaving a b)
 
   pub upper-row : row (without_pair t a b) b ≡ without (a ∷ []) (row t b)
-  upper-row = weak-row b line.inside ∙ ap (λ s. without s (row t b)) (upper-leaving line.ascends)
+  upper-row = weak_row b line.inside ∙ ap (λ s. without s (row t b)) (upper-leaving line.ascends)
 
   pub other_row : (i : ℕ) → i < n → (i ≡ a → ⊥) → (i ≡ b → ⊥) → row (without_pair t a b) i ≡ row t i
-  other_row i l p q = weak-row i l ∙ ap (λ s. without s (row t i)) (other_leaving i p q) ∙ without-none (row t i)
+  other_row i l p q = weak_row i l ∙ ap (λ s. without s (row t i)) (other_leaving i p q) ∙ without-none (row t i)
 
-  weak-degree-le : (i : ℕ) → i < n → degree (without_pair t a b) i ≤ degree t i
-  weak-degree-le i l = omega (arith, ap length (weak-row i l), length-without-le (leaving a b i) (row t i))
+  weak_degree-le : (i : ℕ) → i < n → degree (without_pair t a b) i ≤ degree t i
+  weak_degree-le i l = omega (arith, ap length (weak_row i l), length-without-le (leaving a b i) (row t i))
 
   mirrored-rows : (i j : ℕ) → i < n → j < n → has j (rows i) ≡ has i (rows j)
   mirrored-rows i j l m =
       has-without j (leaving a b i) (row t i)
-      ∙ ap₂ (λ x y. not x && y) (leaving-sym line.ascends i j) (mirror t w i j l m)
+      ∙ ap₂ (λ x y. not x && y) (leaving_sym line.ascends i j) (mirror t w i j l m)
       ∙ sym (has-without i (leaving a b j) (row t j))
 
   -- THE WEAKENED NETWORK CAN BE SCORED
-  pub weak-scored : CanBeScored (without_pair t a b)
+  pub weak_scored : CanBeScored (without_pair t a b)
   unfolding without_pair
-  weak-scored =
+  weak_scored =
       let c = w.shape.complete in
       record {
         shape = rw append-nil at
-            (made-scorable n (needs t) (weights t) rows [] long wide c.least c.most w.shape.needed w.shape.weighed (λ i l. valid_without (leaving a b i) (row-valid w.shape i l))
+            (made_scorable n (needs t) (weights t) rows [] long wide c.least c.most w.shape.needed w.shape.weighed (λ i l. valid_without (leaving a b i) (row_valid w.shape i l))
             (λ i l. omega (arith, length-without-le (leaving a b i) (row t i), degree-le w.shape i l)));
         mirrored = rw append-nil at (made-mirrored n (needs t) (weights t) rows [] long wide mirrored-rows);
       }
 
-  pub line-lost : LineLost t a b (without_pair t a b)
-  line-lost = record {
-    scored = weak-scored;
-    buses = weak-buses;
-    needs = weak-need;
-    weights = weak-weight;
+  pub line_lost : LineLost t a b (without_pair t a b)
+  line_lost = record {
+    scored = weak_scored;
+    buses = weak_buses;
+    needs = weak_need;
+    weights = weak_weight;
     neighbours = λ i j l.
-        ap (has j) (weak-row i l)
+        ap (has j) (weak_row i l)
         ∙ has-without j (leaving a b i) (row t i)
         ∙ ap (λ x. not x && has j (row t i)) (has-leaving a b i j)
         ∙ kept (eqb i a) (eqb i b) (eqb j a) (eqb j b) (has j (row t i)) (not_both line.ascends i);
   }
 
   -- over the L of the full network
-  pub weak-over : {L : ℕ} → L ≡ lcm_all (divisors_of t) → Over (without_pair t a b) L
-  weak-over e =
+  pub weak_over : {L : ℕ} → L ≡ lcm_all (divisors_of t) → Over (without_pair t a b) L
+  weak_over e =
       rw e record {
-        divided = λ u l p. let m : u < n = omega (arith, weak-buses) in fewer-divided w.shape (degree (without_pair t a b) u) u m p (weak-degree-le u m);
-        bounded = (own-over w.shape refl).bounded;
+        divided = λ u l p. let m : u < n = omega (arith, weak_buses) in fewer_divided w.shape (degree (without_pair t a b) u) u m p (weak_degree-le u m);
+        bounded = (own_over w.shape refl).bounded;
       }

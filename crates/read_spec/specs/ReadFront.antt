@@ -59,8 +59,8 @@ module _ (f : List ℕ) (l : max_bytes < length f) where
   abbrev front : List ℕ
   front = take (max_bytes + 1) f
 
-  long-front : length front ≡ max_bytes + 1
-  long-front = length-take-le (max_bytes + 1) f (omega arith)
+  long_front : length front ≡ max_bytes + 1
+  long_front = length-take-le (max_bytes + 1) f (omega arith)
 
   same_word : (i : ℕ) → i < max_bytes → word_at front i ≡ word_at f i
   unfolding word_at
@@ -68,26 +68,26 @@ module _ (f : List ℕ) (l : max_bytes < length f) where
 
   same-part : (a e : ℕ) → e ≤ max_bytes → part a e front ≡ part a e f
   same-part a e h =
-      sym (part-append a e front (drop (max_bytes + 1) f) (omega (arith, long-front))) ∙ ap (part a e) (take-append-drop (max_bytes + 1) f)
+      sym (part-append a e front (drop (max_bytes + 1) f) (omega (arith, long_front))) ∙ ap (part a e) (take-append-drop (max_bytes + 1) f)
 
-  same-buses : file_bus_count front ≡ file_bus_count f
-  same-buses = same_word 0 (omega arith)
+  same_buses : file_bus_count front ≡ file_bus_count f
+  same_buses = same_word 0 (omega arith)
 
   module _ (n : file_bus_count f ≤ max_buses) where
     same-needs : need_bytes front ≡ need_bytes f
     unfolding need_bytes
-    same-needs = rw same-buses (same-part 2 (needs_end f) (omega arith))
+    same-needs = rw same_buses (same-part 2 (needs_end f) (omega arith))
 
     same_count : file_line_count front ≡ file_line_count f
-    same_count = rw same-buses (same_word (needs_end f) (omega arith))
+    same_count = rw same_buses (same_word (needs_end f) (omega arith))
 
     module _ (m : file_line_count f ≤ max_lines) where
       same-weight-count : file_weight_count front ≡ file_weight_count f
-      same-weight-count = rw (same_count, same-buses) (same_word (records_end f) (omega arith))
+      same-weight-count = rw (same_count, same_buses) (same_word (records_end f) (omega arith))
 
       same-weights : weight_bytes front ≡ weight_bytes f
       unfolding weight_bytes
-      same-weights = rw (same_count, same-buses) (same-part (weights_at f) (weights_end f) (omega arith))
+      same-weights = rw (same_count, same_buses) (same-part (weights_at f) (weights_end f) (omega arith))
 
   same_number : long_number front ≡ long_number f
   same_number =
@@ -95,12 +95,12 @@ module _ (f : List ℕ) (l : max_bytes < length f) where
       (λ wn.
       let n = (within_facts 1 max_buses (file_bus_count f) wn).1 in
       split (within 0 max_lines (file_line_count f))
-      (λ wm. let m = (within_facts 0 max_lines (file_line_count f) wm).1 in rw (same-weight-count n m, same-weights n m, same_count n, same-needs n, same-buses, wn, wm))
-      (λ wm. rw (same_count n, same-needs n, same-buses, wn, wm)))
-      (λ wn. rw (same-buses, wn))
+      (λ wm. let m = (within_facts 0 max_lines (file_line_count f) wm).1 in rw (same-weight-count n m, same-weights n m, same_count n, same-needs n, same_buses, wn, wm))
+      (λ wm. rw (same_count n, same-needs n, same_buses, wn, wm)))
+      (λ wn. rw (same_buses, wn))
 
-  pub front-refused : (lent : ℕ) → read_outcome front lent ≡ refuses (long_number f)
-  front-refused lent = long_refused front lent (omega (arith, long-front)) ∙ ap refuses same_number
+  pub front_refused : (lent : ℕ) → read_outcome front lent ≡ refuses (long_number f)
+  front_refused lent = long_refused front lent (omega (arith, long_front)) ∙ ap refuses same_number
 
 -- what is the same for the front of each longer file is so for the front of any
 pub by_front : {A : Type 0} (g : List ℕ → A) → ((f : List ℕ) → max_bytes < length f → g (take (max_bytes + 1) f) ≡ g f)
@@ -112,4 +112,4 @@ by_front g long f =
 
 -- THE FRONT SUFFICES
 pub front_read : (f : List ℕ) (lent : ℕ) → read_outcome (take (max_bytes + 1) f) lent ≡ read_outcome f lent
-front_read f lent = by_front (λ f. read_outcome f lent) (λ f l. front-refused f l lent ∙ sym (long_refused f lent l)) f
+front_read f lent = by_front (λ f. read_outcome f lent) (λ f l. front_refused f l lent ∙ sym (long_refused f lent l)) f

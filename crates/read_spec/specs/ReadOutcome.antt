@@ -3,7 +3,7 @@
 use Rattle.std.specs.Prelude.{not, List, [], ◌∷◌, ◌++◌, ◌≡◌, ℕ, ◌<◌, ltb, length, drop}
 use Rattle.lists.specs.Lists.{has}
 use Rattle.refusals.specs.declared.Refusal.TheVariants.{LineEnds, DegreeTooHigh, TableTooShort, OutOfOrder, NeedAboveDegree}
-use Rattle.refusals.specs.Outcomes.{Outcome, gives, refuses, Cause, ◌⇒◌, outcome, valuesOr}
+use Rattle.refusals.specs.Outcomes.{Outcome, gives, refuses, Cause, ◌⇒◌, outcome, values_or}
 use Rattle.table_spec.specs.Layout.{bus_count, needs, weights, row, lines, table_entries, table_of}
 use Rattle.table_spec.specs.Holds.{Holds}
 use Rattle.network.specs.declared.Counts.{Counts}
@@ -58,7 +58,7 @@ stored_table f t = file_table f ++ drop (length (file_table f)) t
 
 -- what a lent slice that held t holds after Read: accepted, the file's table is stored; refused, what it held
 abbrev pub table_after : List ℕ → List ℕ → List ℕ
-table_after f t = valuesOr t (outcome (read_causes f (length t)) (stored_table f t))
+table_after f t = values_or t (outcome (read_causes f (length t)) (stored_table f t))
 
 -- the slice t holds exactly the buses, needs, weights and different pairs that the file f records, and c are its counts
 pub record AsRecorded (f : List ℕ) (c : Counts) (t : List ℕ) : Type 0 where

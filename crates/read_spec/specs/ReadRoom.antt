@@ -4,7 +4,7 @@ use Rattle.std.proofs.Math.Bool.{or-false}
 use Rattle.std.proofs.Common.{sym, ◌∙◌, arith, ltb-true}
 use Rattle.lists.specs.Tests.{split, never_both}
 use Rattle.refusals.specs.Outcomes.{Outcome, gives, refuses, Cause}
-use Rattle.refusals.specs.Causes.{numbered, refused_numbered, first-refuses, then-decides}
+use Rattle.refusals.specs.Causes.{numbered, refused_numbered, first-refuses, then_decides}
 use Rattle.table_spec.specs.Limits.{max_entries}
 use Rattle.table_spec.specs.Layout.{table_entries}
 use Rattle.network.specs.declared.Counts.{Counts}
@@ -21,22 +21,22 @@ module _ (f : List ℕ) (lent : ℕ) where
   rest = record_causes (file_bus_count f) (need_bytes f) (file_line_count f) (records f) lent
 
   -- no section is a cause of 10
-  no-section : numbered 10 (section_causes f) ≡ false
-  no-section = split (goes_on (records_end f) f) (λ e. rw e) (λ e. rw e)
+  no_section : numbered 10 (section_causes f) ≡ false
+  no_section = split (goes_on (records_end f) f) (λ e. rw e) (λ e. rw e)
 
   -- a file that is refused with 10 has sound sections, and its table would have more entries than are lent
-  by-sections : (o : Outcome Counts) → sections_outcome f ≡ o → read_outcome f lent ≡ refuses 10
+  by_sections : (o : Outcome Counts) → sections_outcome f ≡ o → read_outcome f lent ≡ refuses 10
       → SoundSections f × (lent < table_entries (file_bus_count f) (file_pair_count f))
-  by-sections (gives c) s e =
+  by_sections (gives c) s e =
       let entries = table_entries (file_bus_count f) (file_pair_count f) in
       let short : (ltb lent entries || false) ≡ true =
-      refused_numbered 10 rest (network_counts f) (sym (then-decides rest (counts f) (network_counts f) (section_causes f) s) ∙ e) in
+      refused_numbered 10 rest (network_counts f) (sym (then_decides rest (counts f) (network_counts f) (section_causes f) s) ∙ e) in
       (sound f s, ltb-true lent entries (sym (or-false (ltb lent entries)) ∙ short))
-  by-sections (refuses k) s e =
-      absurd (never_both (refused_numbered 10 (section_causes f) (counts f) (s ∙ sym (first-refuses rest (counts f) (network_counts f) (section_causes f) s) ∙ e)) no-section)
+  by_sections (refuses k) s e =
+      absurd (never_both (refused_numbered 10 (section_causes f) (counts f) (s ∙ sym (first-refuses rest (counts f) (network_counts f) (section_causes f) s) ∙ e)) no_section)
 
   -- NEVER SHORT: where so many are lent, none is refused for want of them
-  pub never-short : max_entries ≤ lent → read_outcome f lent ≡ refuses 10 → ⊥
-  never-short room e =
-      let w = by-sections (sections_outcome f) refl e in
+  pub never_short : max_entries ≤ lent → read_outcome f lent ≡ refuses 10 → ⊥
+  never_short room e =
+      let w = by_sections (sections_outcome f) refl e in
       omega (arith, w.1, w.0.first.buses, w.0.lines, pair_count-le (file_line_count f) (records f))

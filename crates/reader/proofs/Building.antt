@@ -9,7 +9,7 @@ use lib.ListN.{length, length-append}
 use Rattle.lists.specs.Lists.{at, put}
 use Rattle.lists.specs.Below.{any_below}
 use Rattle.lists.specs.Loops.{any_below-same}
-use Rattle.lists.specs.Writes.{stored-list}
+use Rattle.lists.specs.Writes.{stored_list}
 use Rattle.table_spec.specs.Limits.{max_degree}
 use Rattle.table_spec.specs.Layout.{laid, weights_from, starts_from, table_of}
 use Rattle.table_spec.specs.Holds.{needs_can_be_met}
@@ -39,5 +39,5 @@ pub built : (t q w : List ℕ) (rows : ℕ → List ℕ) {a b : ℕ} {t₁ t₂ 
     → t₁ ≡ put t 0 (length q ∷ q) → t₂ ≡ put t₁ a w → t₃ ≡ put t₂ b (laid (length q) rows) → t₃ ≡ put t 0 (table_of (length q) q w rows)
 unfolding table_of
 built t q w rows {t₂ = t₂} wide ea eb first second third =
-    let both : t₂ ≡ put t 0 (length q ∷ q ++ w) = second ∙ stored-list t 0 (length q ∷ q) first (omega arith) w (omega arith) in
-    third ∙ stored-list t 0 (length q ∷ q ++ w) both (omega (arith, length-append q w)) (laid (length q) rows) (omega arith)
+    let both : t₂ ≡ put t 0 (length q ∷ q ++ w) = second ∙ stored_list t 0 (length q ∷ q) first (omega arith) w (omega arith) in
+    third ∙ stored_list t 0 (length q ∷ q ++ w) both (omega (arith, length-append q w)) (laid (length q) rows) (omega arith)

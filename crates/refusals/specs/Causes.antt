@@ -2,7 +2,7 @@
 use Rattle.std.specs.Prelude.{Bool, true, false, cond, ◌||◌, List, [], ◌∷◌, ◌++◌, ◌≡◌, refl, ℕ, eqb}
 use Rattle.std.proofs.Common.{true≢false, sym, ap, ◌∙◌, eq-eqb}
 use Rattle.refusals.specs.Numbers.{number_of}
-use Rattle.refusals.specs.Outcomes.{Outcome, gives, refuses, Cause, outcome, valuesOr}
+use Rattle.refusals.specs.Outcomes.{Outcome, gives, refuses, Cause, outcome, values_or}
 
 abbrev given : {A : Type 0} → Outcome A → Bool
 given (gives values) = true
@@ -23,7 +23,7 @@ NoneHolds (c ∷ cs) = (c.test ≡ false) × NoneHolds cs
 
 -- where values are given no cause holds, and they are the call's
 pub no_cause : {A : Type 0} (cs : List Cause) (values : A) {w : A} → outcome cs values ≡ gives w → NoneHolds cs × (w ≡ values)
-no_cause [] values {w} e = (tt, sym (ap (valuesOr w) e))
+no_cause [] values {w} e = (tt, sym (ap (values_or w) e))
 no_cause (c ∷ cs) values {w} e = go c.test (no_cause cs values) e
   where
     go : (t : Bool) → (outcome cs values ≡ gives w → NoneHolds cs × (w ≡ values))
@@ -75,24 +75,24 @@ module _ {A B : Type 0} where
   or_else (gives values) o = o
   or_else (refuses number) o = refuses number
 
-  or-under : (t : Bool) (k : ℕ) (x : Outcome A) (y : Outcome B) → cond t (refuses k) (or_else x y) ≡ or_else (cond t (refuses k) x) y
-  or-under true k x y = refl
-  or-under false k x y = refl
+  or_under : (t : Bool) (k : ℕ) (x : Outcome A) (y : Outcome B) → cond t (refuses k) (or_else x y) ≡ or_else (cond t (refuses k) x) y
+  or_under true k x y = refl
+  or_under false k x y = refl
 
   module _ (ds : List Cause) (u : A) (v : B) where
     joined : (cs : List Cause) → outcome (cs ++ ds) v ≡ or_else (outcome cs u) (outcome ds v)
     joined [] = refl
     joined (c ∷ cs) =
         ap (cond c.test (refuses (number_of c.refusal))) (joined cs)
-        ∙ or-under c.test (number_of c.refusal) (outcome cs u) (outcome ds v)
+        ∙ or_under c.test (number_of c.refusal) (outcome cs u) (outcome ds v)
 
     -- where the first refuses, the two do
     pub first-refuses : (cs : List Cause) {k : ℕ} → outcome cs u ≡ refuses k → outcome (cs ++ ds) v ≡ refuses k
     first-refuses cs e = joined cs ∙ ap (λ (x : Outcome A). or_else x (outcome ds v)) e
 
     -- where it gives values, the second decides
-    pub then-decides : (cs : List Cause) {w : A} → outcome cs u ≡ gives w → outcome (cs ++ ds) v ≡ outcome ds v
-    then-decides cs e = joined cs ∙ ap (λ (x : Outcome A). or_else x (outcome ds v)) e
+    pub then_decides : (cs : List Cause) {w : A} → outcome cs u ≡ gives w → outcome (cs ++ ds) v ≡ outcome ds v
+    then_decides cs e = joined cs ∙ ap (λ (x : Outcome A). or_else x (outcome ds v)) e
 
 -- ---- a call that gives a part of another's values, and is refused as that one is
 
@@ -101,12 +101,12 @@ module _ {A C : Type 0} (part : A → C) where
   part_of (gives values) = gives (part values)
   part_of (refuses number) = refuses number
 
-  part-under : (t : Bool) (k : ℕ) (o : Outcome A) → part_of (cond t (refuses k) o) ≡ cond t (refuses k) (part_of o)
-  part-under true k o = refl
-  part-under false k o = refl
+  part_under : (t : Bool) (k : ℕ) (o : Outcome A) → part_of (cond t (refuses k) o) ≡ cond t (refuses k) (part_of o)
+  part_under true k o = refl
+  part_under false k o = refl
 
   pub part-answered : (cs : List Cause) (values : A) {o : Outcome A} → o ≡ outcome cs values → part_of o ≡ outcome cs (part values)
   part-answered [] values e = ap part_of e
   part-answered (c ∷ cs) values e =
       let k = number_of c.refusal in
-      ap part_of e ∙ part-under c.test k (outcome cs values) ∙ ap (cond c.test (refuses k)) (part-answered cs values refl)
+      ap part_of e ∙ part_under c.test k (outcome cs values) ∙ ap (cond c.test (refuses k)) (part-answered cs values refl)

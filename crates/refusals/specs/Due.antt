@@ -3,13 +3,13 @@ use Rattle.std.specs.Prelude.{Bool, true, false, List, [], ◌∷◌, ◌++◌, 
 use Rattle.std.proofs.Common.{sym, ap, ◌∙◌, arith, le-ltb, lt-ltb}
 use Rattle.refusals.specs.declared.Refusal.{Refusal}
 use Rattle.refusals.specs.Numbers.{number_of}
-use Rattle.refusals.specs.Outcomes.{Outcome, gives, refuses, Cause, ◌⇒◌, outcome, valuesOr}
-use Rattle.refusals.specs.Causes.{first-refuses, then-decides}
+use Rattle.refusals.specs.Outcomes.{Outcome, gives, refuses, Cause, ◌⇒◌, outcome, values_or}
+use Rattle.refusals.specs.Causes.{first-refuses, then_decides}
 
 -- where these causes decide, a call that gives these values and stores s is due this answer, and entries that held x hold y after it
 pub record Due {A B : Type 0} (cs : List Cause) (values : A) (s x : B) (answer : Outcome A) (y : B) : Type 0 where
   pub answered : answer ≡ outcome cs values
-  pub after : y ≡ valuesOr x (outcome cs s)
+  pub after : y ≡ values_or x (outcome cs s)
 
 -- the same of a call that stores nothing
 abbrev pub Answered : {A : Type 0} → List Cause → A → Outcome A → Type 0
@@ -18,7 +18,7 @@ Answered cs values answer = Due {B = Unit {0}} cs values tt tt answer tt
 -- ---- as contracts say it
 
 pub both : {A B : Type 0} {cs : List Cause} {values : A} {s x : B} {o : Outcome A} {y : B} → Due cs values s x o y
-    → (o ≡ outcome cs values) × (y ≡ valuesOr x (outcome cs s))
+    → (o ≡ outcome cs values) × (y ≡ values_or x (outcome cs s))
 both d = (d.answered, d.after)
 
 module _ {A : Type 0} (cs : List Cause) (values : A) {o : Outcome A} where
@@ -53,13 +53,13 @@ module _ {A B : Type 0} {values : A} {s x : B} where
 
   -- the causes of a stage, then others: what the stage refuses is refused; where it gives a value, the others decide
   module _ {C : Type 0} (cs : List Cause) (u : C) where
-    pub stage-stop : (ds : List Cause) {k : ℕ} → refuses k ≡ outcome cs u → Due (cs ++ ds) values s x (refuses k) x
-    stage-stop ds e =
-        record { answered = sym (first-refuses ds u values cs (sym e)); after = sym (ap (valuesOr x) (first-refuses ds u s cs (sym e))) }
+    pub stage_stop : (ds : List Cause) {k : ℕ} → refuses k ≡ outcome cs u → Due (cs ++ ds) values s x (refuses k) x
+    stage_stop ds e =
+        record { answered = sym (first-refuses ds u values cs (sym e)); after = sym (ap (values_or x) (first-refuses ds u s cs (sym e))) }
 
-    pub stage-pass : {ds : List Cause} {w : C} {o : Outcome A} {y : B} → gives w ≡ outcome cs u → Due ds values s x o y → Due (cs ++ ds) values s x o y
-    stage-pass {ds} e d =
+    pub stage_pass : {ds : List Cause} {w : C} {o : Outcome A} {y : B} → gives w ≡ outcome cs u → Due ds values s x o y → Due (cs ++ ds) values s x o y
+    stage_pass {ds} e d =
         record {
-          answered = d.answered ∙ sym (then-decides ds u values cs (sym e));
-          after = d.after ∙ sym (ap (valuesOr x) (then-decides ds u s cs (sym e)));
+          answered = d.answered ∙ sym (then_decides ds u values cs (sym e));
+          after = d.after ∙ sym (ap (values_or x) (then_decides ds u s cs (sym e)));
         }

@@ -25,6 +25,6 @@ module _ {A : Type 0} where
   outcome (c ∷ cs) values = cond c.test (refuses (number_of c.refusal)) (outcome cs values)
 
   -- the values, or what stands in for them where the call is refused
-  abbrev pub valuesOr : A → Outcome A → A
-  valuesOr other (gives values) = values
-  valuesOr other (refuses number) = other
+  abbrev pub values_or : A → Outcome A → A
+  values_or other (gives values) = values
+  values_or other (refuses number) = other

@@ -14,8 +14,8 @@ use Rattle.report.specs.Report.{printed}
 
 -- Read was lent x, which has room for any table
 module _ (f x : List ℕ) (room : length x ≡ max_entries) where
-  pub print-sheet : {c : Counts} → read_outcome f (length x) ≡ gives c → whole_sheet (network_of (table_after f x)) ≡ printed f
-  print-sheet e = ap whole_sheet (same_network (stored_same f x e)) ∙ sym (ap (λ o. text_or o (whole_sheet (network_of (file_table f)))) (rw room at e))
+  pub print_sheet : {c : Counts} → read_outcome f (length x) ≡ gives c → whole_sheet (network_of (table_after f x)) ≡ printed f
+  print_sheet e = ap whole_sheet (same_network (stored_same f x e)) ∙ sym (ap (λ o. text_or o (whole_sheet (network_of (file_table f)))) (rw room at e))
 
-  pub print-refusal : {k : ℕ} → read_outcome f (length x) ≡ refuses k → refused_line k ≡ printed f
-  print-refusal e = sym (ap (λ o. text_or o (whole_sheet (network_of (file_table f)))) (rw room at e))
+  pub print_refusal : {k : ℕ} → read_outcome f (length x) ≡ refuses k → refused_line k ≡ printed f
+  print_refusal e = sym (ap (λ o. text_or o (whole_sheet (network_of (file_table f)))) (rw room at e))

@@ -31,8 +31,8 @@ growing_none n sizes p w t =
     }
 
 module _ {n : ℕ} {sizes : ℕ → ℕ} {rows : ℕ → List ℕ} {next all : List ℕ} (w : GrowingRows n sizes rows next all) where
-  pub growing-same : (rows' : ℕ → List ℕ) → ((i : ℕ) → i < n → rows i ≡ rows' i) → GrowingRows n sizes rows' next all
-  growing-same rows' e =
+  pub growing_same : (rows' : ℕ → List ℕ) → ((i : ℕ) → i < n → rows i ≡ rows' i) → GrowingRows n sizes rows' next all
+  growing_same rows' e =
       record {
         size = w.size;
         wide = w.wide;
@@ -41,8 +41,8 @@ module _ {n : ℕ} {sizes : ℕ → ℕ} {rows : ℕ → List ℕ} {next all : L
       }
 
   -- a row that is not whole yet goes on within the list
-  pub growing-fits : {bus : ℕ} → bus < n → length (rows bus) < sizes bus → at next bus < length all
-  growing-fits {bus} b short = omega (arith, w.placed bus b, w.wide, sum_below-next-le sizes n b)
+  pub growing_fits : {bus : ℕ} → bus < n → length (rows bus) < sizes bus → at next bus < length all
+  growing_fits {bus} b short = omega (arith, w.placed bus b, w.wide, sum_below-next-le sizes n b)
 
   -- the row of one bus grows: x is stored where it goes on, and the place moves on
   module _ (bus x : ℕ) (b : bus < n) (most : n ≤ max_buses) (short : length (rows bus) < sizes bus) (fit : (i : ℕ) → i < n → length (rows i) ≤ sizes i) where
@@ -66,33 +66,33 @@ module _ {n : ℕ} {sizes : ℕ → ℕ} {rows : ℕ → List ℕ} {next all : L
     own-number j k =
         let g = w.placed bus b in
         let y = sum_below bus sizes + j in
-        at_set all (at next bus) x y (growing-fits b short)
+        at_set all (at next bus) x y (growing_fits b short)
         ∙ split (eqb y (at next bus))
         (λ t. let e : j ≡ length (rows bus) + 0 = omega (arith, eqb-true y (at next bus) t) in rw (t, e) (sym (at-behind (rows bus) (x ∷ []) 0)))
         (λ t. let d : y ≡ at next bus → ⊥ = eqb-false y (at next bus) t in
         let m : j < length (rows bus) = omega (arith, d, length-append (rows bus) (x ∷ [])) in
         rw t (w.each bus j b m ∙ sym (at-append (rows bus) (x ∷ []) j m)))
 
-    other-number : (i j : ℕ) → i < n → j < length (rows i) → (bus ≡ i → ⊥) → at stored (sum_below i sizes + j) ≡ at (rows i) j
-    other-number i j l k d =
+    other_number : (i j : ℕ) → i < n → j < length (rows i) → (bus ≡ i → ⊥) → at stored (sum_below i sizes + j) ≡ at (rows i) j
+    other_number i j l k d =
         let g = w.placed bus b in
         let y = sum_below i sizes + j in
         let apart : y ≡ at next bus → ⊥ = λ e. split (leb bus i)
         (λ t. let a = leb-true bus i t in omega (arith, sum_below-next-le sizes {i = bus} i (omega (arith, d))))
         (λ t. omega (arith, fit i l, sum_below-next-le sizes {i = i} bus (leb-false bus i t))) in
-        at_set all (at next bus) x y (growing-fits b short) ∙ rw (ne_eqb y (at next bus) apart) (w.each i j l k)
+        at_set all (at next bus) x y (growing_fits b short) ∙ rw (ne_eqb y (at next bus) apart) (w.each i j l k)
 
     number_at : (i j : ℕ) → i < n → j < length (grown i) → at stored (sum_below i sizes + j) ≡ at (grown i) j
     number_at i j l k =
         split (eqb bus i)
         (λ t. let e : bus ≡ i = eqb-true bus i t in rw (t, ← e) (own-number j (rw (t, ← e) at k)))
-        (λ t. rw t (other-number i j l (rw t at k) (eqb-false bus i t)))
+        (λ t. rw t (other_number i j l (rw t at k) (eqb-false bus i t)))
 
-    pub growing-next : {next' all' : List ℕ} → all' ≡ stored → next' ≡ moved → GrowingRows n sizes grown next' all'
-    growing-next e f =
+    pub growing_next : {next' all' : List ℕ} → all' ≡ stored → next' ≡ moved → GrowingRows n sizes grown next' all'
+    growing_next e f =
         rw (e, f)
         record { size = length-set next bus _ ∙ w.size; wide = length-set all _ x ∙ w.wide; placed = place_at; each = number_at }
 
   -- rows that are whole are the list
-  pub growing-done : ((i : ℕ) → i < n → length (rows i) ≡ sizes i) → all ≡ join_below n rows
-  growing-done whole = join_below_by sizes rows n whole w.wide w.each
+  pub growing_done : ((i : ℕ) → i < n → length (rows i) ≡ sizes i) → all ≡ join_below n rows
+  growing_done whole = join_below_by sizes rows n whole w.wide w.each

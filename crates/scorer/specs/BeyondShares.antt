@@ -8,11 +8,11 @@ use Rattle.share_spec.specs.ShareOutcomes.{shares_outcome, numerators_after, sha
 
 -- ENTRIES BEYOND THE TABLE NEVER MATTER, x or y
 module _ (t x y : List ℕ) (w : entries (starts_at t) t ≤ length t) where
-  pub beyond-shares : (numerators : List ℕ)
+  pub beyond_shares : (numerators : List ℕ)
       → (shares_outcome (network_of (t ++ x)) (length numerators) ≡ shares_outcome (network_of (t ++ y)) (length numerators))
       × (numerators_after (network_of (t ++ x)) numerators ≡ numerators_after (network_of (t ++ y)) numerators)
-  beyond-shares numerators =
+  beyond_shares numerators =
       let e = beyond_network t x y w in (ap (λ N. shares_outcome N (length numerators)) e, ap (λ N. numerators_after N numerators) e)
 
-  pub beyond-share : (bus : ℕ) → share_outcome (network_of (t ++ x)) bus ≡ share_outcome (network_of (t ++ y)) bus
-  beyond-share bus = ap (λ N. share_outcome N bus) (beyond_network t x y w)
+  pub beyond_share : (bus : ℕ) → share_outcome (network_of (t ++ x)) bus ≡ share_outcome (network_of (t ++ y)) bus
+  beyond_share bus = ap (λ N. share_outcome N bus) (beyond_network t x y w)

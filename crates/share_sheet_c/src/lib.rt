@@ -13,7 +13,7 @@ ghost use Rattle.fraction.specs.Cancel.{cancel_outcome, CancelRule};
 ghost use Rattle.sheet.specs.LineOutcomes.{line_outcome, line_after};
 ghost use Rattle.whole_sheet.specs.WholeSheet.{sheet_outcome, sheet_after};
 ghost use Rattle.whole_sheet.specs.SheetRoom.{longest_sheet};
-ghost use Rattle.share_sheet_c.specs.Status.{ByStatus, outcomeOfStatus, counted};
+ghost use Rattle.share_sheet_c.specs.Status.{ByStatus, outcome_of_status, counted};
 
 use fraction::Cancelled;
 use network::Network;
@@ -41,7 +41,7 @@ pub extern "C" fn share_sheet_read(
 ) -> u32
     ensures answer { ByStatus (read_outcome file.now (length table.old)) (counted buses.old lines.old) result (counted buses.new lines.new) }
     ensures stored { table.new ≡ table_after file.now table.old }
-    ensures recorded { Recorded file.now table.old (outcomeOfStatus result (counted buses.new lines.new)) table.new }
+    ensures recorded { Recorded file.now table.old (outcome_of_status result (counted buses.new lines.new)) table.new }
 {
     match reader::read(file, table) {
         Reading::Refused(cause) => status(cause),
@@ -92,7 +92,7 @@ pub extern "C" fn share_sheet_row(
     entries: &mut usize,
 ) -> u32
     ensures answer { ByStatus (row_place_outcome table.now bus) (start.old, entries.old) result (start.new, entries.new) }
-    ensures stands { RowStands table.now bus (outcomeOfStatus result (start.new, entries.new)) }
+    ensures stands { RowStands table.now bus (outcome_of_status result (start.new, entries.new)) }
 {
     match table_lookup::row_place(table, bus) {
         RowPlace::Refused(cause) => status(cause),
@@ -109,7 +109,7 @@ pub extern "C" fn share_sheet_row(
 pub extern "C" fn share_sheet_shares(table: &[u16], numerators: &mut [u64], over: &mut u64) -> u32
     ensures answer { ByStatus (shares_outcome (network_of table.now) (length numerators.old)) over.old result over.new }
     ensures stored { numerators.new ≡ numerators_after (network_of table.now) numerators.old }
-    ensures fair { AllFair (network_of table.now) (length numerators.old) (outcomeOfStatus result over.new) numerators.new }
+    ensures fair { AllFair (network_of table.now) (length numerators.old) (outcome_of_status result over.new) numerators.new }
 {
     match scorer::shares(table, numerators) {
         AllShares::Refused(cause) => status(cause),
@@ -129,7 +129,7 @@ pub extern "C" fn share_sheet_share(
     over: &mut u64,
 ) -> u32
     ensures answer { ByStatus (share_outcome (network_of table.now) bus) (numerator.old, over.old) result (numerator.new, over.new) }
-    ensures fair { OneFair (network_of table.now) bus (outcomeOfStatus result (numerator.new, over.new)) }
+    ensures fair { OneFair (network_of table.now) bus (outcome_of_status result (numerator.new, over.new)) }
 {
     match scorer::share(table, bus) {
         OneShare::Refused(cause) => status(cause),
@@ -151,7 +151,7 @@ pub extern "C" fn share_sheet_outage(
 ) -> u32
     ensures answer { ByStatus (study_outcome table.now line (length changes.old)) over.old result over.new }
     ensures stored { changes.new ≡ changes_after table.now line changes.old }
-    ensures fair { AllStudied table.now line (length changes.old) (outcomeOfStatus result over.new) changes.new }
+    ensures fair { AllStudied table.now line (length changes.old) (outcome_of_status result over.new) changes.new }
 {
     match outage::changes(table, line, changes) {
         AllChanges::Refused(cause) => status(cause),
@@ -171,7 +171,7 @@ pub extern "C" fn share_sheet_cancel(
     bottom: &mut u64,
 ) -> u32
     ensures answer { ByStatus (cancel_outcome numerator denominator) (top.old, bottom.old) result (top.new, bottom.new) }
-    ensures rule { CancelRule numerator denominator (outcomeOfStatus result (top.new, bottom.new)) }
+    ensures rule { CancelRule numerator denominator (outcome_of_status result (top.new, bottom.new)) }
 {
     match fraction::cancel(numerator, denominator) {
         Cancelled::Refused(cause) => status(cause),

@@ -15,12 +15,12 @@ use Rattle.share_spec.specs.Formula.{CommonDenominator}
 
 module _ (N : Network) where
   -- THE DENOMINATOR
-  pub common-denominator : CommonDenominator N (denominator N)
-  common-denominator = record { common = λ k i. lcm_all_multiple N.divisors k i; least = λ m h. lcm_all_least N.divisors m h }
+  pub common_denominator : CommonDenominator N (denominator N)
+  common_denominator = record { common = λ k i. lcm_all_multiple N.divisors k i; least = λ m h. lcm_all_least N.divisors m h }
 
   -- and there is no other
-  pub denominator-only : {L : ℕ} → CommonDenominator N L → L ≡ denominator N
-  denominator-only i = dvd_antisymm (i.least _ common-denominator.common) (common-denominator.least _ i.common)
+  pub denominator_only : {L : ℕ} → CommonDenominator N L → L ≡ denominator N
+  denominator_only i = dvd_antisymm (i.least _ common_denominator.common) (common_denominator.least _ i.common)
 
 -- ---- the numbers 1, 2, .. up to m
 
@@ -36,12 +36,12 @@ top = refl
 
 -- that of fewer numbers divides it, so it is above zero and no larger
 module _ (l : List ℕ) (h : (k : ℕ) → k ∈ l → (1 ≤ k) × (k ≤ 1 + max_degree)) where
-  multiple-divides : lcm_all l ∣ max_denominator
-  multiple-divides =
+  multiple_divides : lcm_all l ∣ max_denominator
+  multiple_divides =
       rw top at (lcm_all-part l (map_below (1 + max_degree) suc) (λ k i. up_to (1 + max_degree) k (h k i).0 (h k i).1))
 
-  pub multiple-pos : 0 < lcm_all l
-  multiple-pos = pos_of_dvd_of_pos multiple-divides (omega arith)
+  pub multiple_pos : 0 < lcm_all l
+  multiple_pos = pos_of_dvd_of_pos multiple_divides (omega arith)
 
-  pub multiple-le : lcm_all l ≤ max_denominator
-  multiple-le = le_of_dvd (omega arith) multiple-divides
+  pub multiple_le : lcm_all l ≤ max_denominator
+  multiple_le = le_of_dvd (omega arith) multiple_divides

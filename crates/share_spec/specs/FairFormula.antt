@@ -14,7 +14,7 @@ use Rattle.game.specs.Fairness.{fairness_buses}
 use Rattle.game.specs.Total.{total}
 use Rattle.share_spec.specs.Network.{Network, denominator, total_weight, converse, Watching, WholeOver, Sound}
 use Rattle.share_spec.specs.Formula.{numerator_over, numerator, FairShare}
-use Rattle.share_spec.specs.Denominator.{common-denominator}
+use Rattle.share_spec.specs.Denominator.{common_denominator}
 
 -- where the buses that v watches are found by their lists of watchers, they are as they should be
 pub watching_converse : (N : Network) → N.watched ≡ converse N.buses N.game.watchers → GameOn (range N.buses) N.game → Watching N
@@ -29,9 +29,9 @@ watching_converse N e on =
 
 module _ {N : Network} (w : Watching N) (L : ℕ) where
   -- what v gets for the buses that it watches, bus by bus or along its list: the scope's formula is the game's
-  pub as-game : (v : ℕ) → v < N.buses → formula N.game (range N.buses) v L ≡ numerator_over N L v
+  pub as_game : (v : ℕ) → v < N.buses → formula N.game (range N.buses) v L ≡ numerator_over N L v
   unfolding formula numerator_over
-  as-game v b =
+  as_game v b =
       let n = N.buses in
       ap (λ x. own N.game L v + x)
       (sum_by_cong_in (range n) (λ u i. ap (λ c. cond c (neighbour N.game L u) 0) (w.both u v (of_range u n i) b))
@@ -39,16 +39,16 @@ module _ {N : Network} (w : Watching N) (L : ℕ) where
 
   module _ (common : WholeOver N L) where
     -- FAIRNESS
-    pub fair-over : (v : ℕ) → v < N.buses → Fair N.buses N.game L v (numerator_over N L v)
-    fair-over v b = subst (Fair N.buses N.game L v) (as-game v b) (fairness_buses N.buses N.game w.on L common v b)
+    pub fair_over : (v : ℕ) → v < N.buses → Fair N.buses N.game L v (numerator_over N L v)
+    fair_over v b = subst (Fair N.buses N.game L v) (as_game v b) (fairness_buses N.buses N.game w.on L common v b)
 
     -- and all numerators add up to L times the total weight
-    pub whole-over : sum_below N.buses (numerator_over N L) ≡ L * total_weight N
+    pub whole_over : sum_below N.buses (numerator_over N L) ≡ L * total_weight N
     unfolding total_weight
-    whole-over =
+    whole_over =
         let n = N.buses in
         sym (sum_by_range (numerator_over N L) n)
-        ∙ sum_by_cong_in (range n) (λ v i. sym (as-game v (of_range v n i)))
+        ∙ sum_by_cong_in (range n) (λ v i. sym (as_game v (of_range v n i)))
         ∙ total N.game (range n) w.on L common
         ∙ ap (λ x. L * x) (sum_by_range N.game.weight n)
 
@@ -56,12 +56,12 @@ module _ {N : Network} (w : Watching N) (L : ℕ) where
 pub same_game : {N M : Network} → Watching N → Watching M → N.buses ≡ M.buses → N.game ≡ M.game → (L v : ℕ) → v < N.buses
     → numerator_over N L v ≡ numerator_over M L v
 same_game {N} {M} w x e f L v b =
-    sym (as-game w L v b) ∙ ap₂ (λ n g. formula g (range n) v L) e f ∙ as-game x L v (omega arith)
+    sym (as_game w L v b) ∙ ap₂ (λ n g. formula g (range n) v L) e f ∙ as_game x L v (omega arith)
 
 -- over the network's own L
 module _ {N : Network} (w : Sound N) where
   pub fair : (v : ℕ) → v < N.buses → FairShare N (denominator N) v (numerator N v)
-  fair v b = record { over = common-denominator N; average = fair-over w.watching (denominator N) w.whole v b }
+  fair v b = record { over = common_denominator N; average = fair_over w.watching (denominator N) w.whole v b }
 
   pub whole : sum_below N.buses (numerator N) ≡ denominator N * total_weight N
-  whole = whole-over w.watching (denominator N) w.whole
+  whole = whole_over w.watching (denominator N) w.whole

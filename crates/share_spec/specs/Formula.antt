@@ -2,7 +2,7 @@
 -- Definitions only.
 use Rattle.std.specs.Prelude.{ℕ, ◌+◌}
 use Rattle.std.specs.Int.{◌∣◌}
-use Rattle.lists.specs.Lists.{sumBy, ◌∈◌}
+use Rattle.lists.specs.Lists.{sum_by, ◌∈◌}
 use Rattle.game.specs.Game.{own, neighbour, Fair}
 use Rattle.share_spec.specs.Network.{Network, denominator}
 
@@ -21,7 +21,7 @@ pub record CommonDenominator (N : Network) (L : ℕ) : Type 0 where
 
 -- the share of bus v, times L: its own term, and a term for each bus that it watches, which goes by that bus's need and degree, not by its own
 unfoldable pub numerator_over : Network → ℕ → ℕ → ℕ
-numerator_over N L v = own N.game L v + sumBy (neighbour N.game L) (N.watched v)
+numerator_over N L v = own N.game L v + sum_by (neighbour N.game L) (N.watched v)
 
 -- over the network's own L
 abbrev pub numerator : Network → ℕ → ℕ

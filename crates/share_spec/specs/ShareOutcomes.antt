@@ -4,7 +4,7 @@ use Rattle.std.specs.Prelude.{true, List, [], ◌∷◌, ◌++◌, ◌≡◌, �
 use Rattle.lists.specs.Lists.{at}
 use Rattle.lists.specs.Below.{sum_below, map_below}
 use Rattle.refusals.specs.declared.Refusal.TheVariants.{NumeratorsTooShort}
-use Rattle.refusals.specs.Outcomes.{Outcome, gives, Cause, ◌⇒◌, outcome, valuesOr}
+use Rattle.refusals.specs.Outcomes.{Outcome, gives, Cause, ◌⇒◌, outcome, values_or}
 use Rattle.table_spec.specs.TableOutcomes.{on_table, bus_causes}
 use Rattle.share_spec.specs.Network.{Network, denominator, total_weight}
 use Rattle.share_spec.specs.Formula.{numerator, FairShare}
@@ -24,7 +24,7 @@ stored_numerators N x = map_below N.buses (numerator N) ++ drop N.buses x
 
 -- what entries that held x hold after Shares: accepted, the numerators are stored; refused, what they held
 abbrev pub numerators_after : Network → List ℕ → List ℕ
-numerators_after N x = valuesOr x (outcome (shares_causes N (length x)) (stored_numerators N x))
+numerators_after N x = values_or x (outcome (shares_causes N (length x)) (stored_numerators N x))
 
 -- the answer is L, no refusal; over L each bus has a fair numerator at its entry; and all n numerators add up to L times the total weight
 pub record FairToAll (N : Network) (answer : Outcome ℕ) (numerators : List ℕ) : Type 0 where

@@ -9,7 +9,7 @@ use Rattle.refusals.specs.Outcomes.{Outcome}
 use Rattle.share_spec.specs.Network.{Network, denominator, Sound}
 use Rattle.share_spec.specs.Formula.{numerator_over, numerator}
 use Rattle.share_spec.specs.ShareOutcomes.{shares_outcome, stored_numerators, numerators_after, AllFair, share_outcome, OneFair}
-use Rattle.share_spec.specs.ShareClaims.{SharesDue, ShareDue, shares_due, all_fair, one-fair}
+use Rattle.share_spec.specs.ShareClaims.{SharesDue, ShareDue, shares_due, all_fair, one_fair}
 
 -- ---- as code finds them
 
@@ -27,9 +27,9 @@ put_stored N x =
 -- ---- what is due is all that is promised
 
 module _ (N : Network) (sound : N.held ≡ true → Sound N) where
-  pub shares-promised : (x : List ℕ) {o : Outcome ℕ} {after : List ℕ} → SharesDue N x o after
+  pub shares_promised : (x : List ℕ) {o : Outcome ℕ} {after : List ℕ} → SharesDue N x o after
       → (o ≡ shares_outcome N (length x)) × ((after ≡ numerators_after N x) × AllFair N (length x) o after)
-  shares-promised x d = let e = shares_due N x d in (e.0, (e.1, all_fair N sound x d))
+  shares_promised x d = let e = shares_due N x d in (e.0, (e.1, all_fair N sound x d))
 
-  pub share-promised : (bus : ℕ) {o : Outcome (ℕ × ℕ)} → ShareDue N bus o → (o ≡ share_outcome N bus) × OneFair N bus o
-  share-promised bus d = (d.answered, one-fair N sound bus d)
+  pub share_promised : (bus : ℕ) {o : Outcome (ℕ × ℕ)} → ShareDue N bus o → (o ≡ share_outcome N bus) × OneFair N bus o
+  share_promised bus d = (d.answered, one_fair N sound bus d)

@@ -20,8 +20,8 @@ use Rattle.table_spec.specs.Holds.{Scorable}
 use Rattle.share_spec.specs.Network.{Network, Watching}
 use Rattle.share_spec.specs.Formula.{numerator_over}
 use Rattle.share_spec.specs.TableNetwork.{game_of, Over}
-use Rattle.share_spec.specs.TableGame.{term-whole}
-use Rattle.share_spec.specs.FairFormula.{as-game}
+use Rattle.share_spec.specs.TableGame.{term_whole}
+use Rattle.share_spec.specs.FairFormula.{as_game}
 
 -- what bus u gives to the numerator of bus v, over L
 unfoldable pub term_to : Game → ℕ → ℕ → ℕ → ℕ
@@ -52,7 +52,7 @@ given-le {t} w {L} o u v b =
     omega (
       arith,
       term_by_row t L u v,
-      terms_le (weight t u) (need t u) (row t u) L u v (term-whole w o u b),
+      terms_le (weight t u) (need t u) (row t u) L u v (term_whole w o u b),
       mul-le-mul_right {m = weight t u} {n = max_weight} L (w.weighed u b),
     )
 
@@ -92,4 +92,4 @@ module _ (n : ℕ) (g : Game) (on : GameOn (range n) g) (L : ℕ) where
 
 -- so a numerator is what all buses of the network give
 pub numerator-given : {N : Network} → Watching N → (L v : ℕ) → v < N.buses → numerator_over N L v ≡ given_by N.game L N.buses v
-numerator-given {N} w L v b = sym (all-given N.buses N.game w.on L v b ∙ as-game w L v b)
+numerator-given {N} w L v b = sym (all-given N.buses N.game w.on L v b ∙ as_game w L v b)

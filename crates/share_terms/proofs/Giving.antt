@@ -9,7 +9,7 @@ use lib.ListN.{length, set, take, drop, take-append-drop}
 use Rattle.lists.specs.Lists.{indicator, count, ◌∈◌, at}
 use Rattle.lists.specs.Tests.{eqb_self}
 use Rattle.lists.specs.Counts.{count-append}
-use Rattle.lists.specs.Loops.{sum_by_take-next}
+use Rattle.lists.specs.Loops.{sum_by_take_next}
 use Rattle.lists.specs.Places.{in_at}
 use Rattle.share_terms.specs.Added.{Added}
 use Rattle.share_terms.specs.Adding.{added_entry, added_both}
@@ -18,13 +18,13 @@ use Rattle.share_terms.specs.Adding.{added_entry, added_both}
 module _ (r : List ℕ) (x k : ℕ) {t u : List ℕ} (room : (v : ℕ) → v ∈ r → (v < length t) × (at t v + x * count v r < 2 ^ 64))
     (w : Added (λ v. x * count v (take k r)) t u) (b : k < length r) {j : ℕ} (e : j ≡ at r k) where
   one_more : (v : ℕ) → count v (take (k + 1) r) ≡ count v (take k r) + indicator (eqb v j)
-  one_more v = sum_by_take-next (λ y. indicator (eqb v y)) r k b ∙ ap (λ y. count v (take k r) + indicator (eqb v y)) (sym e)
+  one_more v = sum_by_take_next (λ y. indicator (eqb v y)) r k b ∙ ap (λ y. count v (take k r) + indicator (eqb v y)) (sym e)
 
   here : (j < length t) × (at t j + x * count j r < 2 ^ 64)
   here = room j (subst (λ y. y ∈ r) (sym e) (in_at r k b))
 
-  pub next-there : j < length u
-  next-there = omega (arith, here.0, w.long)
+  pub next_there : j < length u
+  next_there = omega (arith, here.0, w.long)
 
   pub next_fits : at u j + x < 2 ^ 64
   next_fits =
@@ -33,4 +33,4 @@ module _ (r : List ℕ) (x k : ℕ) {t u : List ℕ} (room : (v : ℕ) → v ∈
       omega (arith, here.1, w.each j, mul-le-mul_left x bounded, ap (λ n. x * n) (one_more j), ap (λ a. x * indicator a) (eqb_self j))
 
   pub next-given : Added (λ v. x * count v (take (k + 1) r)) t (set u j (at u j + x))
-  next-given = added_both w (added_entry u j x next-there) (λ v. omega (arith, ap (λ n. x * n) (one_more v)))
+  next-given = added_both w (added_entry u j x next_there) (λ v. omega (arith, ap (λ n. x * n) (one_more v)))

@@ -13,7 +13,7 @@ use Rattle.fraction.specs.Divisors.{lcm_of, lcm_all}
 use Rattle.fraction.specs.Lcm.{lcm_all_multiple, lcm_all_least, lcm_all-next}
 use Rattle.table_spec.specs.Limits.{max_degree}
 use Rattle.share_spec.specs.TableNetwork.{max_denominator}
-use Rattle.share_spec.specs.Denominator.{up_to, of_up_to, multiple-le}
+use Rattle.share_spec.specs.Denominator.{up_to, of_up_to, multiple_le}
 
 -- the numbers behind m / 2, from 0 on
 abbrev behind : ℕ → ℕ → ℕ
@@ -24,9 +24,9 @@ unfoldable pub upper : ℕ → ℕ → ℕ
 upper m n = lcm_all (map_below n (behind m))
 
 module _ (m : ℕ) where
-  pub upper-start : 1 ≡ upper m (m / 2 - m / 2)
+  pub upper_start : 1 ≡ upper m (m / 2 - m / 2)
   unfolding upper lcm_all map_below join_below
-  upper-start = let z : m / 2 - m / 2 ≡ 0 = omega arith in rw z
+  upper_start = let z : m / 2 - m / 2 ≡ 0 = omega arith in rw z
 
   -- one number more: those up to k were folded
   pub upper-next : {k l : ℕ} → m / 2 ≤ k → l ≡ upper m (k - m / 2) → lcm_of (k + 1) l ≡ upper m (k + 1 - m / 2)
@@ -38,25 +38,25 @@ module _ (m : ℕ) where
 
   pub upper-le : (n : ℕ) → m / 2 + n ≤ 1 + max_degree → upper m n ≤ max_denominator
   unfolding upper
-  upper-le n h = multiple-le _ (λ x i. let w = of_map_below (behind m) n x i in (omega (arith, w.2), omega (arith, w.1, w.2)))
+  upper-le n h = multiple_le _ (λ x i. let w = of_map_below (behind m) n x i in (omega (arith, w.2), omega (arith, w.1, w.2)))
 
-  in-upper : (k : ℕ) → m / 2 < k → k ≤ m → k ∣ upper m (m - m / 2)
+  in_upper : (k : ℕ) → m / 2 < k → k ≤ m → k ∣ upper m (m - m / 2)
   unfolding upper
-  in-upper k a b =
+  in_upper k a b =
       let e : suc (m / 2 + (k - m / 2 - 1)) ≡ k = omega arith in
       lcm_all_multiple _ k (subst (λ x. x ∈ map_below (m - m / 2) (behind m)) e (in_map_below (behind m) (m - m / 2) (omega arith)))
 
   -- a number up to m divides it: it stands in the upper half, or its double divides it, and so on, n times at most
-  all-divide : (n k : ℕ) → 1 ≤ k → k ≤ m → m ≤ n + k → k ∣ upper m (m - m / 2)
-  all-divide zero k a b h = in-upper k (omega arith) b
-  all-divide (suc n) k a b h =
+  all_divide : (n k : ℕ) → 1 ≤ k → k ≤ m → m ≤ n + k → k ∣ upper m (m - m / 2)
+  all_divide zero k a b h = in_upper k (omega arith) b
+  all_divide (suc n) k a b h =
       split (leb k (m / 2))
-      (λ t. let g = leb-true k (m / 2) t in dvd_trans k (dvd-mul_left k 2) (all-divide n (2 * k) (omega arith) (omega arith) (omega arith)))
-      (λ t. in-upper k (leb-false k (m / 2) t) b)
+      (λ t. let g = leb-true k (m / 2) t in dvd_trans k (dvd-mul_left k 2) (all_divide n (2 * k) (omega arith) (omega arith) (omega arith)))
+      (λ t. in_upper k (leb-false k (m / 2) t) b)
 
-  pub upper-half : upper m (m - m / 2) ≡ lcm_all (map_below m suc)
+  pub upper_half : upper m (m - m / 2) ≡ lcm_all (map_below m suc)
   unfolding upper
-  upper-half =
+  upper_half =
       dvd_antisymm
       (lcm_all_least (map_below (m - m / 2) (behind m)) _ (λ x i. let w = of_map_below (behind m) (m - m / 2) x i in lcm_all_multiple (map_below m suc) x (up_to m x (omega (arith, w.2)) (omega (arith, w.1, w.2)))))
-      (lcm_all_least (map_below m suc) _ (λ x i. let w = of_up_to m x i in all-divide m x w.0 w.1 (omega arith)))
+      (lcm_all_least (map_below m suc) _ (λ x i. let w = of_up_to m x i in all_divide m x w.0 w.1 (omega arith)))

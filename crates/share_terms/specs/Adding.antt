@@ -33,16 +33,16 @@ added_both a b e = record { long = b.long ∙ a.long; each = λ x. omega (arith,
 
 -- the first n entries of t were cleared, which left u
 module _ (t : List ℕ) {n : ℕ} {u : List ℕ} (h : n ≤ length t) (cleared : u ≡ put t 0 (replicate n 0)) where
-  pub cleared-long : length u ≡ length t
-  cleared-long = ap length cleared ∙ length-put t 0 (replicate n 0) (omega (arith, length-replicate {A = ℕ} n 0))
+  pub cleared_long : length u ≡ length t
+  cleared_long = ap length cleared ∙ length-put t 0 (replicate n 0) (omega (arith, length-replicate {A = ℕ} n 0))
 
-  pub cleared-zero : (x : ℕ) → x < n → at u x ≡ 0
-  cleared-zero x b = ap (λ l. at l x) cleared ∙ at_front t (replicate n 0) x (omega (arith, length-replicate {A = ℕ} n 0)) ∙ at-zeros n x
+  pub cleared_zero : (x : ℕ) → x < n → at u x ≡ 0
+  cleared_zero x b = ap (λ l. at l x) cleared ∙ at_front t (replicate n 0) x (omega (arith, length-replicate {A = ℕ} n 0)) ∙ at-zeros n x
 
   -- and all that was added after that was g 0, g 1, .. up to g (n - 1)
-  pub added-zeros : {f g : ℕ → ℕ} {v : List ℕ} → Added f u v → ((x : ℕ) → x < n → f x ≡ g x) → ((x : ℕ) → n ≤ x → f x ≡ 0) → v ≡ put t 0 (map_below n g)
-  added-zeros {f} {g} {v} a first rest =
+  pub added_zeros : {f g : ℕ → ℕ} {v : List ℕ} → Added f u v → ((x : ℕ) → x < n → f x ≡ g x) → ((x : ℕ) → n ≤ x → f x ≡ 0) → v ≡ put t 0 (map_below n g)
+  added_zeros {f} {g} {v} a first rest =
       put_tabled t n g h
-      (a.long ∙ cleared-long)
-      (λ x b. omega (arith, a.each x, cleared-zero x b, first x b))
+      (a.long ∙ cleared_long)
+      (λ x b. omega (arith, a.each x, cleared_zero x b, first x b))
       (λ x b. omega (arith, a.each x, ap (λ l. at l x) cleared, behind-front t (replicate n 0) x (omega (arith, length-replicate {A = ℕ} n 0)), rest x b))

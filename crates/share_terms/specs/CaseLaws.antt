@@ -23,9 +23,9 @@ cases_cover {k} {d} p e =
 
 module _ (k d L : ℕ) where
   -- 0
-  pub need-above-degree : d < k → 0 ≡ neighbour_term k d L
+  pub need_above_degree_lem : d < k → 0 ≡ neighbour_term k d L
   unfolding neighbour_term
-  need-above-degree l = rw (lt-leb k d l)
+  need_above_degree_lem l = rw (lt-leb k d l)
 
   module _ {x : ℕ} where
     -- the scope's fraction, for any need that can be met
@@ -34,13 +34,13 @@ module _ (k d L : ℕ) where
     met p l e = rw (le-leb k d l) (sym (div-eq_of_eq-mul_left (mul-pos (omega arith) (omega arith)) (sym e)))
 
     -- 1/(d(d+1))
-    pub need-equal-to-degree : 1 ≤ k → k ≡ d → x * (d * (d + 1)) ≡ L → x ≡ neighbour_term k d L
-    need-equal-to-degree p q e = let one : d + 1 - k ≡ 1 = omega arith in met p (omega arith) (rw one (e ∙ sym (one-mul L)))
+    pub need_equal_to_degree : 1 ≤ k → k ≡ d → x * (d * (d + 1)) ≡ L → x ≡ neighbour_term k d L
+    need_equal_to_degree p q e = let one : d + 1 - k ≡ 1 = omega arith in met p (omega arith) (rw one (e ∙ sym (one-mul L)))
 
     -- 1/(d+1)
     pub need-one : 1 ≤ d → k ≡ 1 → x * (d + 1) ≡ L → x ≡ neighbour_term k d L
     need-one p q e = rw q (sym (neighbour-one d L p ∙ div-eq_of_eq-mul_left (omega arith) (sym e)))
 
     -- (d+1-k)/(d(d+1))
-    pub need-between : 1 < k → k < d → x * (d * (d + 1)) ≡ (d + 1 - k) * L → x ≡ neighbour_term k d L
-    need-between p l = met (omega arith) (omega arith)
+    pub need_between : 1 < k → k < d → x * (d * (d + 1)) ≡ (d + 1 - k) * L → x ≡ neighbour_term k d L
+    need_between p l = met (omega arith) (omega arith)

@@ -13,7 +13,7 @@ use Rattle.table_spec.specs.Holds.{Scorable}
 use Rattle.table_spec.specs.Rows.{degree-le}
 use Rattle.share_spec.specs.TableNetwork.{max_denominator, Over}
 use Rattle.share_terms.specs.Unit.{unit}
-use Rattle.share_terms.specs.CaseLaws.{need-above-degree}
+use Rattle.share_terms.specs.CaseLaws.{need_above_degree_lem}
 
 -- the need k and the degree d of a bus, over an L that d(d+1) divides, and its unit u, as code has them
 module _ {k d L u : ℕ} (p : 1 ≤ k) (divided : 0 < d → d * (d + 1) ∣ L) (eu : u ≡ unit L d) where
@@ -21,11 +21,11 @@ module _ {k d L u : ℕ} (p : 1 ≤ k) (divided : 0 < d → d * (d + 1) ∣ L) (
   unfolding unit
   unit-le = rw eu (div-mul-le_self L (d * (d + 1)))
 
-  pub unit-term : neighbour_term k d (u * (d * (d + 1))) ≡ neighbour_term k d L
+  pub unit_term : neighbour_term k d (u * (d * (d + 1))) ≡ neighbour_term k d L
   unfolding unit
-  unit-term =
+  unit_term =
       ⊎_elim
-      (λ z. let l : d < k = omega arith in sym (need-above-degree k d _ l) ∙ need-above-degree k d L l)
+      (λ z. let l : d < k = omega arith in sym (need_above_degree_lem k d _ l) ∙ need_above_degree_lem k d L l)
       (λ q. ap (neighbour_term k d) (rw eu (div-mul_cancel (d * (d + 1)) (divided q))))
       (eq-zero-or-pos d)
 
@@ -40,5 +40,5 @@ module _ {t : List ℕ} (w : Scorable t) {L : ℕ} (o : Over t L) {bus d k u : �
   pub term_asks : (1 ≤ k) × (d ≤ max_degree) × (u * (d * (d + 1)) ≤ max_denominator)
   term_asks = (needed, omega (arith, degree-le w bus b), omega (arith, unit-le needed divided eu, o.bounded))
 
-  pub term-read : {x : ℕ} → x ≡ neighbour_term k d (u * (d * (d + 1))) → x ≡ neighbour_term (need t bus) (degree t bus) L
-  term-read e = e ∙ unit-term needed divided eu ∙ ap₂ (λ k d. neighbour_term k d L) ek ed
+  pub term_read : {x : ℕ} → x ≡ neighbour_term k d (u * (d * (d + 1))) → x ≡ neighbour_term (need t bus) (degree t bus) L
+  term_read e = e ∙ unit_term needed divided eu ∙ ap₂ (λ k d. neighbour_term k d L) ek ed

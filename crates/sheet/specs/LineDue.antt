@@ -16,8 +16,8 @@ module _ (text x : List ℕ) where
   pub too_short : length x < length text → TextDue text x (refuses 14) x
   too_short g = below refl refl g
 
-  pub in-front : {r : ℕ} {y : List ℕ} → length text ≤ length x → r ≡ length text → y ≡ take (length text) text ++ drop (length text) x → TextDue text x (gives r) y
-  in-front g a w = not-below refl refl g (accept a (w ∙ ap (λ l. l ++ drop (length text) x) (take_all (length text) text (le_refl _))))
+  pub in_front : {r : ℕ} {y : List ℕ} → length text ≤ length x → r ≡ length text → y ≡ take (length text) text ++ drop (length text) x → TextDue text x (gives r) y
+  in_front g a w = not-below refl refl g (accept a (w ∙ ap (λ l. l ++ drop (length text) x) (take_all (length text) text (le_refl _))))
 
 -- what was answered and written for a text is due for any that is the same
 pub due_text : {other : List ℕ} (text x : List ℕ) {o : Outcome ℕ} {y : List ℕ} → other ≡ text → (o ≡ text_outcome other (length x)) × (y ≡ text_after other x) → TextDue text x o y

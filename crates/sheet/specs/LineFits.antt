@@ -15,7 +15,7 @@ use Rattle.share_spec.specs.Network.{Network, denominator}
 use Rattle.share_spec.specs.Formula.{numerator}
 use Rattle.share_spec.specs.TableNetwork.{max_denominator}
 use Rattle.share_spec.specs.FairFormula.{whole}
-use Rattle.share_spec.specs.TableGame.{own-over}
+use Rattle.share_spec.specs.TableGame.{own_over}
 use Rattle.two_way.specs.TwoWay.{network_of}
 use Rattle.two_way.specs.TwoWaySound.{total_weight-le, sound}
 use Rattle.sheet.specs.Sheet.{heading_form, bus_form, sheet_line}
@@ -38,8 +38,8 @@ module _ {N : Network} (w : Short N) where
       let next : v + 1 ≤ N.buses = omega arith in
       le_trans (omega (arith, sum_below_grows (numerator N) N.buses next, sum_below-next v (numerator N), whole w.sound)) (mul-le-mul w.over w.total_weight)
 
-  bus-fits : (v : ℕ) → v < N.buses → length (sheet_line N (suc v)) ≤ longest_line
-  bus-fits v b =
+  bus_fits : (v : ℕ) → v < N.buses → length (sheet_line N (suc v)) ≤ longest_line
+  bus_fits v b =
       let x = numerator N v in
       let L = denominator N in
       let g = gcd_of x L in
@@ -66,7 +66,7 @@ module _ {N : Network} (w : Short N) where
         decimal-le 4 N.lines w.lines,
         decimal-le 9 (denominator N) (omega (arith, w.over)),
       )
-  line_fits (suc v) b = bus-fits v (omega arith)
+  line_fits (suc v) b = bus_fits v (omega arith)
 
 -- the network of a table is such a one
 pub held_short : {t : List ℕ} → Holds t → Short (network_of t)
@@ -76,6 +76,6 @@ held_short {t} w = record {
   lines = omega (arith, lines-le t w);
   need_column = w.limited;
   degree_column = degree-le w.shape;
-  over = (own-over w.shape refl).bounded;
+  over = (own_over w.shape refl).bounded;
   total_weight = le_trans (total_weight-le w.shape) (mul-le-mul_right max_weight w.shape.complete.most);
 }

@@ -1,7 +1,7 @@
 -- What Sheet line answers and writes, for every slice. Definitions only.
 use Rattle.std.specs.Prelude.{List, [], ◌∷◌, ◌++◌, ℕ, ltb, length, drop}
 use Rattle.refusals.specs.declared.Refusal.TheVariants.{NoSuchBus, TextTooShort}
-use Rattle.refusals.specs.Outcomes.{Outcome, Cause, ◌⇒◌, outcome, valuesOr}
+use Rattle.refusals.specs.Outcomes.{Outcome, Cause, ◌⇒◌, outcome, values_or}
 use Rattle.table_spec.specs.TableOutcomes.{on_table}
 use Rattle.share_spec.specs.Network.{Network}
 use Rattle.sheet.specs.Sheet.{sheet_line}
@@ -21,7 +21,7 @@ written text x = text ++ drop (length text) x
 
 -- what bytes that held x hold afterwards: accepted, the text is written; refused, what they held
 abbrev pub text_after : List ℕ → List ℕ → List ℕ
-text_after text x = valuesOr x (outcome (text_causes text (length x)) (written text x))
+text_after text x = values_or x (outcome (text_causes text (length x)) (written text x))
 
 -- ---- Sheet line
 
@@ -33,4 +33,4 @@ abbrev pub line_outcome : Network → ℕ → ℕ → Outcome ℕ
 line_outcome N i lent = outcome (line_causes N i lent) (length (sheet_line N i))
 
 abbrev pub line_after : Network → ℕ → List ℕ → List ℕ
-line_after N i x = valuesOr x (outcome (line_causes N i (length x)) (written (sheet_line N i) x))
+line_after N i x = values_or x (outcome (line_causes N i (length x)) (written (sheet_line N i) x))

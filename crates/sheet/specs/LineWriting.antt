@@ -22,8 +22,8 @@ module _ {N : Network} (w : Short N) {i : ℕ} (b : i ≤ N.buses) {text : List 
   bounded : length text ≤ longest_line
   bounded = omega (arith, ap length e, line_fits w i b)
 
-  pub line-room : (a : ℕ) {n : ℕ} → a + longest_line ≤ n → a + length text ≤ n
-  line-room a h = omega (arith, bounded)
+  pub line_room : (a : ℕ) {n : ℕ} → a + longest_line ≤ n → a + length text ≤ n
+  line_room a h = omega (arith, bounded)
 
   pub line-written : (x : List ℕ) (a : ℕ) {y : List ℕ} {r : ℕ} → WrittenAt text a x r y → WrittenAt (sheet_line N i) a x r y × (r ≤ a + longest_line)
   line-written x a p = ((p.0 ∙ ap (λ l. a + length l) e, p.1 ∙ ap (put x a) e), omega (arith, p.0, bounded))

@@ -12,15 +12,15 @@ use Rattle.signed.specs.Differences.{difference_fits}
 -- ---- a difference of two unsigned numbers
 
 module _ (a b : ℕ) (p : a < 2 ^ 63) (q : b < 2 ^ 63) where
-  less-is : to_z w64 a -ℤ to_z w64 b ≡ difference a b
+  less_is : to_z w64 a -ℤ to_z w64 b ≡ difference a b
   unfolding difference
-  less-is = ap₂ ◌-ℤ◌ (to_z_pos w64 a p) (to_z_pos w64 b q)
+  less_is = ap₂ ◌-ℤ◌ (to_z_pos w64 a p) (to_z_pos w64 b q)
 
-  pub less-fits : SFits w64 (to_z w64 a -ℤ to_z w64 b)
-  less-fits = rw less-is (difference_fits a b p q)
+  pub less_fits : SFits w64 (to_z w64 a -ℤ to_z w64 b)
+  less_fits = rw less_is (difference_fits a b p q)
 
-  pub less-read : to_z w64 (of_z w64 (to_z w64 a -ℤ to_z w64 b)) ≡ difference a b
-  less-read = to_z-of_z w64 _ less-fits ∙ less-is
+  pub less_read : to_z w64 (of_z w64 (to_z w64 a -ℤ to_z w64 b)) ≡ difference a b
+  less_read = to_z-of_z w64 _ less_fits ∙ less_is
 
   -- one that a call gave
   pub read_back : {z : ℤ} → z ≡ difference a b → to_z w64 (of_z w64 z) ≡ difference a b
@@ -62,14 +62,14 @@ module _ (x : ℤ) (f : SFits w64 x) where
     turned : negsuc 0 -ℤ read ≡ pos (nat_abs x - 1)
     turned = ap (λ z. negsuc 0 -ℤ z) back ∙ known.0
 
-    pub turned-fits : SFits w64 (negsuc 0 -ℤ read)
-    turned-fits = subst (SFits w64) (sym turned) (record { sfits = omega (arith, known.1.0, f.sfits) })
+    pub turned_fits : SFits w64 (negsuc 0 -ℤ read)
+    turned_fits = subst (SFits w64) (sym turned) (record { sfits = omega (arith, known.1.0, f.sfits) })
 
     turned-read : to_z w64 (of_z w64 (negsuc 0 -ℤ read)) ≡ pos (nat_abs x - 1)
-    turned-read = to_z-of_z w64 _ turned-fits ∙ turned
+    turned-read = to_z-of_z w64 _ turned_fits ∙ turned
 
-    pub turned-cast : T (non_neg (to_z w64 (of_z w64 (negsuc 0 -ℤ read)))) × Fits w64 (nat_abs (to_z w64 (of_z w64 (negsuc 0 -ℤ read))))
-    turned-cast = subst (λ z. T (non_neg z) × Fits w64 (nat_abs z)) (sym turned-read) (tt, record { fits = omega (arith, known.1.0, f.sfits) })
+    pub turned_cast : T (non_neg (to_z w64 (of_z w64 (negsuc 0 -ℤ read)))) × Fits w64 (nat_abs (to_z w64 (of_z w64 (negsuc 0 -ℤ read))))
+    turned_cast = subst (λ z. T (non_neg z) × Fits w64 (nat_abs z)) (sym turned-read) (tt, record { fits = omega (arith, known.1.0, f.sfits) })
 
     pub turned-sum : nat_abs (to_z w64 (of_z w64 (negsuc 0 -ℤ read))) + 1 ≡ nat_abs x
     turned-sum = ap (λ z. nat_abs z + 1) turned-read ∙ omega (arith, known.1.1)
@@ -78,10 +78,10 @@ module _ (x : ℤ) (f : SFits w64 x) where
     sum_fits = record { fits = omega (arith, turned-sum, known.1.0, f.sfits) }
 
   module _ (h : lt_z read (pos 0) ≡ false) where
-    pub plain-cast : T (non_neg read) × Fits w64 (nat_abs read)
-    plain-cast =
+    pub plain_cast : T (non_neg read) × Fits w64 (nat_abs read)
+    plain_cast =
         let k = above x (subst (λ z. lt_z z (pos 0) ≡ false) back h) in
         subst (λ z. T (non_neg z) × Fits w64 (nat_abs z)) (sym back) (k.0, record { fits = omega (arith, k.1, f.sfits) })
 
-  pub plain-read : nat_abs read ≡ nat_abs x
-  plain-read = ap nat_abs back
+  pub plain_read : nat_abs read ≡ nat_abs x
+  plain_read = ap nat_abs back

@@ -65,9 +65,9 @@ module _ (n : ℕ) (f : ℕ → ℤ) (x y : List ℤ) (w : Fronted n f x y) (h :
   abbrev vs : List ℤ
   vs = signed_below n f
 
-  pub front-list : y ≡ vs ++ drop n x
+  pub front_list : y ≡ vs ++ drop n x
   unfolding signed_at
-  front-list =
+  front_list =
       let e = length-signed_below n f in
       ext_get_or (pos 0) y (vs ++ drop n x) (omega (arith, w.long, length-append vs (drop n x), e, length-drop n x)) λ i m.
       split (ltb i n)

@@ -82,8 +82,8 @@ module _ (x count p : ℕ) (row : List ℕ) (h : count ≤ length row) where
   taken : length l ≡ count
   taken = length-take-le count row h
 
-  pub is-present : p < count → at row p ≡ x → RowAfter Present x l row row
-  is-present b e = (in_has x l (subst (λ y. y ∈ l) (at_take count row p b ∙ e) (in_at l p (omega (arith, taken)))), refl)
+  pub is_present : p < count → at row p ≡ x → RowAfter Present x l row row
+  is_present b e = (in_has x l (subst (λ y. y ∈ l) (at_take count row p b ∙ e) (in_at l p (omega (arith, taken)))), refl)
 
   -- where x belongs at place p, and is not there
   module _ (w : Place x l p) where
@@ -94,8 +94,8 @@ module _ (x count p : ℕ) (row : List ℕ) (h : count ≤ length row) where
       absent : Absent x l p
       absent b e = let g : p < count = omega (arith, taken) in a g (sym (at_take count row p g) ∙ e)
 
-      pub is-full : length row ≤ count → RowAfter Full x l row row
-      is-full g = (has-not x l p r w absent, omega (arith, taken), refl)
+      pub is_full : length row ≤ count → RowAfter Full x l row row
+      is_full g = (has-not x l p r w absent, omega (arith, taken), refl)
 
-      pub is-added : {row' : List ℕ} → count < length row → row' ≡ put row 0 (insert_at l p x) → RowAfter Added x l row row'
-      is-added g e = (has-not x l p r w absent, omega (arith, taken), e ∙ sym (ap (put row 0) (insert-at x l p w absent)))
+      pub is_added_lem : {row' : List ℕ} → count < length row → row' ≡ put row 0 (insert_at l p x) → RowAfter Added x l row row'
+      is_added_lem g e = (has-not x l p r w absent, omega (arith, taken), e ∙ sym (ap (put row 0) (insert-at x l p w absent)))

@@ -27,27 +27,27 @@ module _ {row₀ : List ℕ} {count : ℕ} (room : count < length row₀) where
 
   -- a store at j, whatever it is, leaves the rest
   module _ {j : ℕ} {row : List ℕ} (h : j ≤ count) (s : Shifted row₀ count j row) where
-    shifted-set : (x : ℕ) → set row j x ≡ take j row₀ ++ (x ∷ (drop j (take count row₀) ++ drop (suc count) row₀))
-    shifted-set x = ap (λ l. set l j x) s.list ∙ set_at (take j row₀) _ _ x j (length-take-le j row₀ (omega arith))
+    shifted_set : (x : ℕ) → set row j x ≡ take j row₀ ++ (x ∷ (drop j (take count row₀) ++ drop (suc count) row₀))
+    shifted_set x = ap (λ l. set l j x) s.list ∙ set_at (take j row₀) _ _ x j (length-take-le j row₀ (omega arith))
 
-    pub shifted-length : length row ≡ length row₀
-    shifted-length = ap length s.list ∙ simp (length-append, length-take, length-drop) (omega arith)
+    pub shifted_length : length row ≡ length row₀
+    shifted_length = ap length s.list ∙ simp (length-append, length-take, length-drop) (omega arith)
 
-    pub shifted-last : (x : ℕ) → set row j x ≡ put row₀ 0 (insert_at (take count row₀) j x)
+    pub shifted_last : (x : ℕ) → set row j x ≡ put row₀ 0 (insert_at (take count row₀) j x)
     unfolding insert_at
-    shifted-last x =
+    shifted_last x =
         let l = take count row₀ in
         let e : length (take j l ++ (x ∷ drop j l)) ≡ suc count = simp (length-append, length-take, length-drop) (omega arith) in
-        shifted-set x
+        shifted_set x
         ∙ sym
         (put_front row₀ (insert_at l j x)
         ∙ ap (λ k. (take j l ++ (x ∷ drop j l)) ++ drop k row₀) e
         ∙ append_assoc (take j l) (x ∷ drop j l) _
         ∙ ap (λ p. p ++ (x ∷ (drop j l ++ drop (suc count) row₀))) (take-take j count row₀ h))
 
-  pub shifted-more : {j : ℕ} {row : List ℕ} (i : ℕ) → suc i ≡ j → j ≤ count → Shifted row₀ count j row → Shifted row₀ count i (set row j (at row i))
+  pub shifted_more : {j : ℕ} {row : List ℕ} (i : ℕ) → suc i ≡ j → j ≤ count → Shifted row₀ count j row → Shifted row₀ count i (set row j (at row i))
   unfolding at
-  shifted-more {j} {row} i e h s =
+  shifted_more {j} {row} i e h s =
       let l = take count row₀ in
       let z = at row i in
       let same : z ≡ at row₀ i =
@@ -61,7 +61,7 @@ module _ {row₀ : List ℕ} {count : ℕ} (room : count < length row₀) where
       ∙ ap₂ (λ y k. y ∷ drop k l) (at_take count row₀ i (omega arith) ∙ sym same) e in
       record {
         list =
-            shifted-set h s z
+            shifted_set h s z
             ∙ ap (λ k. k ++ (z ∷ (drop j l ++ drop (suc count) row₀))) before
             ∙ append_snoc (take i row₀) (at row₀ i) _
             ∙ ap₂ (λ y k. take i row₀ ++ (y ∷ (k ++ drop (suc count) row₀))) (sym (kept ∙ same)) (sym behind);

@@ -7,7 +7,7 @@ use Rattle.lists.specs.Lists.{indicator, count, has, Ascending}
 use Rattle.lists.specs.Below.{list_below}
 use Rattle.lists.specs.Tests.{split, or_cases, eqb_comm}
 use Rattle.lists.specs.Counts.{in_has, has_in, in_first, has-none, has-cons, has_once}
-use Rattle.lists.specs.Places.{ascending_once, ascends-above, ascends-tail, ascends_cons, ascending_same}
+use Rattle.lists.specs.Places.{ascending_once, ascends_above, ascends_tail, ascends_cons, ascending_same}
 use Rattle.lists.specs.ListBelow.{count-list_below, list_below_ascends, list_below-same}
 use Rattle.sorted_row.specs.Insertion.{insert}
 
@@ -52,11 +52,11 @@ insert_ascends x [] h = ascends_cons x [] (λ z i. absurd (omega arith)) h
 insert_ascends x (y ∷ l) h =
     insert-cases Ascending x y l
     (λ g. ascends_cons y (insert x l)
-    (λ z i. ⊎_elim (λ t. ascends-above y l h z (has_in z l t)) (λ t. omega (arith, eqb-true x z t)) (or_cases (has z l) (eqb x z) (sym (has-insert z x l) ∙ in_has z (insert x l) i)))
-    (insert_ascends x l (ascends-tail y l h)))
+    (λ z i. ⊎_elim (λ t. ascends_above y l h z (has_in z l t)) (λ t. omega (arith, eqb-true x z t)) (or_cases (has z l) (eqb x z) (sym (has-insert z x l) ∙ in_has z (insert x l) i)))
+    (insert_ascends x l (ascends_tail y l h)))
     (λ _. h)
     (λ g. ascends_cons x (y ∷ l)
-    (λ z i. split (eqb z y) (λ t. omega (arith, eqb-true z y t)) (λ t. omega (arith, ascends-above y l h z (omega (arith, ap indicator t)))))
+    (λ z i. split (eqb z y) (λ t. omega (arith, eqb-true z y t)) (λ t. omega (arith, ascends_above y l h z (omega (arith, ap indicator t)))))
     h)
 
 -- inserting x into the numbers that pass: those that pass or are x

@@ -10,17 +10,17 @@ use borrow.Author.Tests.{ltb-true, eqb-true, le-ltb, lt-ltb, eq-eqb}
 use lib.Dec.{ltb, eqb}
 use lib.ListN.{length, take, set, replicate, length-set, length-take}
 use lib.Seq.{take_all}
-use Rattle.lists.specs.Lists.{indicator, countBy, count, ◌∈◌, has, at}
+use Rattle.lists.specs.Lists.{indicator, count_by, count, ◌∈◌, has, at}
 use Rattle.lists.specs.Below.{all_below}
 use Rattle.lists.specs.Tests.{split, same_test, never_both, and_both, and_left, and_right}
-use Rattle.lists.specs.Sums.{sumBy-cong, sumBy-zero}
+use Rattle.lists.specs.Sums.{sum_by_cong, sum_by-zero}
 use Rattle.lists.specs.Counts.{in_has, has_in, has-none}
 use Rattle.lists.specs.Places.{at-zeros, at_set, at_take, in_at, at_in, count_none, count_under_next, ascending_place}
-use Rattle.lists.specs.Loops.{sum_by_take-next, allBelow-at, allBelow-by}
+use Rattle.lists.specs.Loops.{sum_by_take_next, all_below-at, all_below_by}
 use Rattle.table_spec.specs.Layout.{row_at}
 use Rattle.table_spec.specs.Holds.{ValidRow, SoundRows, Mirrored}
 use Rattle.table_check.specs.Cursors.{is_at, Matched}
-use Rattle.table_spec.specs.Rows.{valid-once}
+use Rattle.table_spec.specs.Rows.{valid_once}
 
 -- ---- one row: the cursors of the rows that its first k entries name have moved on by one, from x to y
 
@@ -41,8 +41,8 @@ module _ {r x y : List ℕ} {k j : ℕ} (m : Moved r k x y) (e : j ≡ at r k) (
             at_set y j (c + 1) a (omega (arith, m.long))
             ∙ split (eqb a j)
             (λ t. rw t (let z : a ≡ j = eqb-true a j t in
-            omega (arith, q, ap (at y) z, m.each a, sum_by_take-next (λ v. indicator (eqb a v)) r k b, ap (λ v. indicator (eqb a v)) e, ap indicator t)))
-            (λ t. rw t (omega (arith, m.each a, sum_by_take-next (λ v. indicator (eqb a v)) r k b, ap (λ v. indicator (eqb a v)) e, ap indicator t)));
+            omega (arith, q, ap (at y) z, m.each a, sum_by_take_next (λ v. indicator (eqb a v)) r k b, ap (λ v. indicator (eqb a v)) e, ap indicator t)))
+            (λ t. rw t (omega (arith, m.each a, sum_by_take_next (λ v. indicator (eqb a v)) r k b, ap (λ v. indicator (eqb a v)) e, ap indicator t)));
       }
 
   -- in a row that ascends it is the first to ask there
@@ -66,17 +66,17 @@ is_there r c i w =
 
 -- the cursors before row i
 abbrev pub Marks : ℕ → List ℕ → List ℕ → ℕ → List ℕ → Type 0
-Marks n s l i x = (j : ℕ) → j < n → at x j ≡ countBy (λ y. ltb y i) (row_at s l j)
+Marks n s l i x = (j : ℕ) → j < n → at x j ≡ count_by (λ y. ltb y i) (row_at s l j)
 
 pub none_marked : (n : ℕ) (s l : List ℕ) (m : ℕ) → Marks n s l 0 (replicate m 0)
 none_marked n s l m j b =
-    at-zeros m j ∙ sym (sumBy-cong (λ y. ap indicator (le-ltb y 0 (omega arith))) (row_at s l j) ∙ sumBy-zero (row_at s l j))
+    at-zeros m j ∙ sym (sum_by_cong (λ y. ap indicator (le-ltb y 0 (omega arith))) (row_at s l j) ∙ sum_by-zero (row_at s l j))
 
 -- a row that matched: each row that it names has i
 pub answered : (s l : List ℕ) (i : ℕ) (x y : List ℕ) → Matched s l i (row_at s l i) x true y → (j : ℕ) → j ∈ row_at s l i → i ∈ row_at s l j
 answered s l i x y m j h =
     let k = at_in j (row_at s l i) h in
-    let a = allBelow-at _ (length (row_at s l i)) (sym m.answer) k.1 in
+    let a = all_below-at _ (length (row_at s l i)) (sym m.answer) k.1 in
     let f = is_there (row_at s l j) (at x j) i (subst (λ v. is_at (row_at s l v) (at x v) i ≡ true) k.2 a) in
     subst (λ v. v ∈ row_at s l j) f.1 (in_at (row_at s l j) (at x j) f.0)
 
@@ -93,20 +93,20 @@ module _ (n : ℕ) (s l : List ℕ) (w : SoundRows n s l) (sy : Mirrored n s l) 
   matches : all_below (length (row_at s l i)) (λ k. is_at (row_at s l (at (row_at s l i) k)) (at x (at (row_at s l i) k)) i) ≡ true
   unfolding is_at
   matches =
-      allBelow-by _ (length (row_at s l i)) λ k g.
+      all_below_by _ (length (row_at s l i)) λ k g.
       let j : ℕ = at (row_at s l i) k in
       let c : j < n = (w.valid i b).below k g in
       let h = has_in i (row_at s l j) (sym (sy i j b c) ∙ in_has j (row_at s l i) (in_at (row_at s l i) k g)) in
       let p = ascending_place i (row_at s l j) (w.valid j c).ascends h in
       rw (ms j c) (and_both _ _ (lt-ltb _ _ p.0) (eq-eqb _ _ p.1))
 
-  pub not-refused : (y : List ℕ) → Matched s l i (row_at s l i) x false y → ⊥
-  not-refused y m = never_both matches (sym m.answer)
+  pub not_refused : (y : List ℕ) → Matched s l i (row_at s l i) x false y → ⊥
+  not_refused y m = never_both matches (sym m.answer)
 
   counted : (j : ℕ) → j < n → count j (row_at s l i) ≡ count i (row_at s l j)
   counted j c =
-      let p = valid-once (w.valid i b) j in
-      let q = valid-once (w.valid j c) i in
+      let p = valid_once (w.valid i b) j in
+      let q = valid_once (w.valid j c) i in
       split (has j (row_at s l i))
       (λ e. omega (arith, p, q, has_in j (row_at s l i) e, has_in i (row_at s l j) (sym (sy i j b c) ∙ e)))
       (λ e. has-none j (row_at s l i) e ∙ sym (has-none i (row_at s l j) (sym (sy i j b c) ∙ e)))

@@ -12,56 +12,56 @@ use Rattle.table_spec.specs.TableOutcomes.{SameNetwork}
 
 -- the sections of a table whose row starts begin at `from`, in a slice that goes on with x
 module _ (from : ℕ) (t x : List ℕ) (w : entries from t ≤ length t) where
-  busCount-on : bus_count (t ++ x) ≡ bus_count t
-  busCount-on = at-append t x 0 (omega arith)
+  bus_count_on : bus_count (t ++ x) ≡ bus_count t
+  bus_count_on = at-append t x 0 (omega arith)
 
   last_on : last from (t ++ x) ≡ last from t
-  last_on = ap (λ n. at (t ++ x) (from + n)) busCount-on ∙ at-append t x (from + bus_count t) (omega arith)
+  last_on = ap (λ n. at (t ++ x) (from + n)) bus_count_on ∙ at-append t x (from + bus_count t) (omega arith)
 
-  starts-on : starts from (t ++ x) ≡ starts from t
-  starts-on = sym (starts_read from (t ++ x) (sym busCount-on)) ∙ part-append from (from + bus_count t + 1) t x (omega arith) ∙ starts_read from t refl
+  starts_on : starts from (t ++ x) ≡ starts from t
+  starts_on = sym (starts_read from (t ++ x) (sym bus_count_on)) ∙ part-append from (from + bus_count t + 1) t x (omega arith) ∙ starts_read from t refl
 
   numbers_on : neighbour_numbers from (t ++ x) ≡ neighbour_numbers from t
   unfolding neighbour_numbers
-  numbers_on = rw (last_on, busCount-on) (part-append (from + bus_count t + 1) (entries from t) t x w)
+  numbers_on = rw (last_on, bus_count_on) (part-append (from + bus_count t + 1) (entries from t) t x w)
 
-  complete-on : complete from (t ++ x) ≡ complete from t
+  complete_on : complete from (t ++ x) ≡ complete from t
   unfolding complete
-  complete-on =
-      rw (last_on, busCount-on, le-leb (entries from t) (length t) w, le-leb (entries from t) (length (t ++ x)) (omega (arith, length-append t x)))
+  complete_on =
+      rw (last_on, bus_count_on, le-leb (entries from t) (length t) w, le-leb (entries from t) (length (t ++ x)) (omega (arith, length-append t x)))
 
-  two-way-on : two_way from (t ++ x) ≡ two_way from t
+  two_way_on : two_way from (t ++ x) ≡ two_way from t
   unfolding two_way
-  two-way-on = rw (busCount-on, starts-on, numbers_on)
+  two_way_on = rw (bus_count_on, starts_on, numbers_on)
 
 -- and those of a network's table
 module _ (t x : List ℕ) (w : entries (starts_at t) t ≤ length t) where
-  needs-on : needs (t ++ x) ≡ needs t
-  needs-on = sym (needs_read (t ++ x) (sym (busCount-on (starts_at t) t x w))) ∙ part-append 1 (1 + bus_count t) t x (omega arith) ∙ needs_read t refl
+  needs_on : needs (t ++ x) ≡ needs t
+  needs_on = sym (needs_read (t ++ x) (sym (bus_count_on (starts_at t) t x w))) ∙ part-append 1 (1 + bus_count t) t x (omega arith) ∙ needs_read t refl
 
-  weights-on : weights (t ++ x) ≡ weights t
-  weights-on =
-      sym (weights_read (t ++ x) (sym (busCount-on (starts_at t) t x w))) ∙ part-append (weights_from (bus_count t)) (starts_at t) t x (omega arith) ∙ weights_read t refl
+  weights_on : weights (t ++ x) ≡ weights t
+  weights_on =
+      sym (weights_read (t ++ x) (sym (bus_count_on (starts_at t) t x w))) ∙ part-append (weights_from (bus_count t)) (starts_at t) t x (omega arith) ∙ weights_read t refl
 
   holds_on : holds (t ++ x) ≡ holds t
   unfolding holds row
-  holds_on = rw (busCount-on (starts_at t) t x w, complete-on (starts_at t) t x w, needs-on, weights-on, two-way-on (starts_at t) t x w, starts-on (starts_at t) t x w, numbers_on (starts_at t) t x w)
+  holds_on = rw (bus_count_on (starts_at t) t x w, complete_on (starts_at t) t x w, needs_on, weights_on, two_way_on (starts_at t) t x w, starts_on (starts_at t) t x w, numbers_on (starts_at t) t x w)
 
   row_on : (i : ℕ) → row (t ++ x) i ≡ row t i
   unfolding row
-  row_on i = rw (busCount-on (starts_at t) t x w, starts-on (starts_at t) t x w, numbers_on (starts_at t) t x w)
+  row_on i = rw (bus_count_on (starts_at t) t x w, starts_on (starts_at t) t x w, numbers_on (starts_at t) t x w)
 
   on : SameNetwork (t ++ x) t
   on = record {
     judged = holds_on;
-    sizes = busCount-on (starts_at t) t x w;
-    needed = needs-on;
-    weighed = weights-on;
+    sizes = bus_count_on (starts_at t) t x w;
+    needed = needs_on;
+    weighed = weights_on;
     rows = row_on;
-    degree_answers = λ bus. rw (holds_on, busCount-on (starts_at t) t x w, row_on bus);
-    row_answers = λ bus. simp (holds_on, busCount-on (starts_at t) t x w, row_on bus);
-    row_places = λ bus. simp (holds_on, busCount-on (starts_at t) t x w, starts-on (starts_at t) t x w);
-    place_answers = λ bus. simp (holds_on, busCount-on (starts_at t) t x w, starts-on (starts_at t) t x w, row_on bus);
+    degree_answers = λ bus. rw (holds_on, bus_count_on (starts_at t) t x w, row_on bus);
+    row_answers = λ bus. simp (holds_on, bus_count_on (starts_at t) t x w, row_on bus);
+    row_places = λ bus. simp (holds_on, bus_count_on (starts_at t) t x w, starts_on (starts_at t) t x w);
+    place_answers = λ bus. simp (holds_on, bus_count_on (starts_at t) t x w, starts_on (starts_at t) t x w, row_on bus);
   }
 
 -- whatever follows a table in the slice, x or y

@@ -42,34 +42,34 @@ module _ (n : ℕ) (rows : ℕ → List ℕ) where
     unfolding laid
     shaped = shape ∙ ap (λ l. front ++ l) (append_assoc firsts (join_below n rows) rest)
 
-    starts-back : starts from t ≡ firsts
+    starts_back : starts from t ≡ firsts
     unfolding starts
-    starts-back =
+    starts_back =
         ap (part from (from + bus_count t + 1)) shaped ∙ part_between front firsts (join_below n rows ++ rest) begin (omega (arith, count, length-firsts))
 
-    last-back : last from t ≡ length (join_below n rows)
-    last-back =
+    last_back : last from t ≡ length (join_below n rows)
+    last_back =
         let z : from + bus_count t ≡ length front + n = omega (arith, begin, count) in
         ap₂ at shaped z
         ∙ at-behind front (firsts ++ (join_below n rows ++ rest)) n
         ∙ at-append firsts (join_below n rows ++ rest) n (omega (arith, length-firsts))
         ∙ first-at n (omega arith)
 
-    numbers-back : neighbour_numbers from t ≡ join_below n rows
+    numbers_back : neighbour_numbers from t ≡ join_below n rows
     unfolding neighbour_numbers
-    numbers-back =
+    numbers_back =
         let a : from + bus_count t + 1 ≡ length (front ++ firsts) = omega (arith, begin, count, length-firsts, length-append front firsts) in
-        let e : from + bus_count t + 1 + last from t ≡ from + bus_count t + 1 + length (join_below n rows) = omega (arith, last-back) in
+        let e : from + bus_count t + 1 + last from t ≡ from + bus_count t + 1 + length (join_below n rows) = omega (arith, last_back) in
         ap (part (from + bus_count t + 1) (from + bus_count t + 1 + last from t)) (shaped ∙ sym (append_assoc front firsts (join_below n rows ++ rest)))
         ∙ part_between (front ++ firsts) (join_below n rows) rest a e
 
     rows_back : (i : ℕ) → i < n → row_at (starts from t) (neighbour_numbers from t) i ≡ rows i
-    rows_back i b = rw (starts-back, numbers-back) (row_back i b)
+    rows_back i b = rw (starts_back, numbers_back) (row_back i b)
 
-    rows-sound : ((i : ℕ) → i < n → ValidRow n i (rows i)) → ((i : ℕ) → i < n → length (rows i) ≤ max_degree) → SoundRows n (starts from t) (neighbour_numbers from t)
+    rows_sound : ((i : ℕ) → i < n → ValidRow n i (rows i)) → ((i : ℕ) → i < n → length (rows i) ≤ max_degree) → SoundRows n (starts from t) (neighbour_numbers from t)
     unfolding join_below
-    rows-sound valid short =
-        rw (starts-back, numbers-back)
+    rows_sound valid short =
+        rw (starts_back, numbers_back)
         record {
           spans = record {
             long = omega (arith, length-firsts);
@@ -103,42 +103,42 @@ module _ (n : ℕ) (q w : List ℕ) (rows : ℕ → List ℕ) (rest : List ℕ) 
   unfolding table_of
   shape = append_assoc (n ∷ q ++ w) (laid n rows) rest
 
-  pub made-busCount : bus_count made ≡ n
+  pub made-bus_count : bus_count made ≡ n
   unfolding table_of at
-  made-busCount = refl
+  made-bus_count = refl
 
   begin : starts_at made ≡ length (n ∷ q ++ w)
-  begin = omega (arith, made-busCount, length-append q w, long, wide)
+  begin = omega (arith, made-bus_count, length-append q w, long, wide)
 
   pub made-needs : needs made ≡ q
   unfolding needs
   made-needs =
-      ap₂ (λ k t. part 1 (1 + k) t) made-busCount (shape ∙ append_assoc (n ∷ q) w (laid n rows ++ rest))
+      ap₂ (λ k t. part 1 (1 + k) t) made-bus_count (shape ∙ append_assoc (n ∷ q) w (laid n rows ++ rest))
       ∙ part_between (n ∷ []) q (w ++ (laid n rows ++ rest)) {e = 1 + n} refl (omega (arith, long))
 
   pub made-weights : weights made ≡ w
   unfolding weights
   made-weights =
-      ap₂ (λ k t. part (weights_from k) (starts_from k) t) made-busCount (shape ∙ append_assoc (n ∷ q) w (laid n rows ++ rest))
+      ap₂ (λ k t. part (weights_from k) (starts_from k) t) made-bus_count (shape ∙ append_assoc (n ∷ q) w (laid n rows ++ rest))
       ∙ part_between (n ∷ q) w (laid n rows ++ rest) {a = weights_from n} {e = starts_from n} (omega (arith, long)) (omega (arith, wide))
 
   pub made-last : last (starts_at made) made ≡ length (join_below n rows)
-  made-last = last-back n rows (n ∷ q ++ w) rest shape begin made-busCount
+  made-last = last_back n rows (n ∷ q ++ w) rest shape begin made-bus_count
 
   pub made_row : (i : ℕ) → i < n → row made i ≡ rows i
   unfolding row
-  made_row i b = rows_back n rows (n ∷ q ++ w) rest shape begin made-busCount i b
+  made_row i b = rows_back n rows (n ∷ q ++ w) rest shape begin made-bus_count i b
 
   -- rows that a network may have make a table that can be scored
-  pub made-scorable : 1 ≤ n → n ≤ max_buses → ((i : ℕ) → i < n → 1 ≤ at q i) → ((i : ℕ) → i < n → at w i ≤ max_weight)
+  pub made_scorable : 1 ≤ n → n ≤ max_buses → ((i : ℕ) → i < n → 1 ≤ at q i) → ((i : ℕ) → i < n → at w i ≤ max_weight)
       → ((i : ℕ) → i < n → ValidRow n i (rows i)) → ((i : ℕ) → i < n → length (rows i) ≤ max_degree) → Scorable made
   unfolding table_of at
-  made-scorable least most needed weighed valid short =
+  made_scorable least most needed weighed valid short =
       record {
         complete = record { least = least; most = most; whole = omega (arith, made-last, length-table_of n q w rows long wide, length-append (table_of n q w rows) rest) };
         needed = λ i b. rw made-needs (needed i b);
         weighed = λ i b. rw made-weights (weighed i b);
-        rows = rows-sound n rows (n ∷ q ++ w) rest shape begin made-busCount valid short;
+        rows = rows_sound n rows (n ∷ q ++ w) rest shape begin made-bus_count valid short;
       }
 
   -- and mirrored rows a mirrored one
@@ -152,7 +152,7 @@ module _ (n : ℕ) (q w : List ℕ) (rows : ℕ → List ℕ) (rest : List ℕ) 
   unfolding table_of at
   made_holds least most needed weighed valid short mirror met =
       record {
-        shape = made-scorable least most (λ i b. (needed i (omega (arith, long))).0) (λ i b. (weighed i (omega (arith, wide))).1) valid short;
+        shape = made_scorable least most (λ i b. (needed i (omega (arith, long))).0) (λ i b. (weighed i (omega (arith, wide))).1) valid short;
         mirrored = made-mirrored mirror;
         weighty = λ i b. rw made-weights (weighed i (omega (arith, wide))).0;
         limited = λ i b. rw made-needs (needed i (omega (arith, long))).1;
@@ -161,10 +161,10 @@ module _ (n : ℕ) (q w : List ℕ) (rows : ℕ → List ℕ) (rest : List ℕ) 
 
 -- what follows a table that was made never matters
 module _ (n : ℕ) (q w : List ℕ) (rows : ℕ → List ℕ) (long : length q ≡ n) (wide : length w ≡ n) where
-  made-whole : entries (starts_at (table_of n q w rows)) (table_of n q w rows) ≤ length (table_of n q w rows)
-  made-whole =
+  made_whole : entries (starts_at (table_of n q w rows)) (table_of n q w rows) ≤ length (table_of n q w rows)
+  made_whole =
       let a = append-nil (table_of n q w rows) in
-      omega (arith, rw a at (made-busCount n q w rows [] long wide), rw a at (made-last n q w rows [] long wide), length-table_of n q w rows long wide)
+      omega (arith, rw a at (made-bus_count n q w rows [] long wide), rw a at (made-last n q w rows [] long wide), length-table_of n q w rows long wide)
 
-  pub made-beyond : (rest : List ℕ) → SameNetwork (table_of n q w rows ++ rest) (table_of n q w rows)
-  made-beyond rest = rw append-nil at (beyond (table_of n q w rows) rest [] made-whole)
+  pub made_beyond : (rest : List ℕ) → SameNetwork (table_of n q w rows ++ rest) (table_of n q w rows)
+  made_beyond rest = rw append-nil at (beyond (table_of n q w rows) rest [] made_whole)

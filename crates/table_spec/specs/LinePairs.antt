@@ -20,23 +20,23 @@ use Rattle.lists.specs.ListBelow.{has-list_below, list_below_in, list_below_asce
 use Rattle.table_spec.specs.Limits.{max_buses}
 use Rattle.table_spec.specs.Layout.{bus_count, row, lines}
 use Rattle.table_spec.specs.Holds.{Holds}
-use Rattle.table_spec.specs.Rows.{valid-below, row-valid}
+use Rattle.table_spec.specs.Rows.{valid_below, row_valid}
 use Rattle.table_spec.specs.Lines.{pair_number, is_pair, pairs, lower_bus, upper_bus}
 
 module _ (n : ℕ) (rows : ℕ → List ℕ) where
   -- each is a pair of neighbours, the lower bus first
-  pub pairs-in : (k : ℕ) → k < length (pairs n rows) → (lower_bus n rows k < n) × (lower_bus n rows k < upper_bus n rows k) × (has (upper_bus n rows k) (rows (lower_bus n rows k)) ≡ true)
+  pub pairs_in : (k : ℕ) → k < length (pairs n rows) → (lower_bus n rows k < n) × (lower_bus n rows k < upper_bus n rows k) × (has (upper_bus n rows k) (rows (lower_bus n rows k)) ≡ true)
   unfolding pairs
-  pairs-in k h =
+  pairs_in k h =
       let w = list_below_in (n * max_buses) (is_pair rows) k h in
       let a = lower_bus n rows k in
       let b = upper_bus n rows k in
       (omega (arith, w.0), ltb-true a b (and_left (ltb a b) (has b (rows a)) w.1), and_right (ltb a b) (has b (rows a)) w.1)
 
   -- and they ascend
-  pub pairs-ascend : (j k : ℕ) → j < k → k < length (pairs n rows) → pair_number (lower_bus n rows j) (upper_bus n rows j) < pair_number (lower_bus n rows k) (upper_bus n rows k)
+  pub pairs_ascend : (j k : ℕ) → j < k → k < length (pairs n rows) → pair_number (lower_bus n rows j) (upper_bus n rows j) < pair_number (lower_bus n rows k) (upper_bus n rows k)
   unfolding pairs
-  pairs-ascend j k l h = omega (arith, list_below_ascends (n * max_buses) (is_pair rows) j k l h)
+  pairs_ascend j k l h = omega (arith, list_below_ascends (n * max_buses) (is_pair rows) j k l h)
 
   -- where there are no more buses than may be, and rows have no other numbers
   module _ (few : n ≤ max_buses) (low : (i j : ℕ) → i < n → has j (rows i) ≡ true → j < n) where
@@ -56,9 +56,9 @@ module _ (n : ℕ) (rows : ℕ → List ℕ) where
       at-number : ℕ → List ℕ
       at-number c = cond (is_pair rows c) (g (c / max_buses) (c % max_buses)) []
 
-      at-bus : (i : ℕ) → i < n → join_below n (λ j. cond (ltb i j && has j (rows i)) (g i j) []) ≡ join_below max_buses (λ j. at-number (i * max_buses + j))
+      at_bus : (i : ℕ) → i < n → join_below n (λ j. cond (ltb i j && has j (rows i)) (g i j) []) ≡ join_below max_buses (λ j. at-number (i * max_buses + j))
       unfolding at-number
-      at-bus i b =
+      at_bus i b =
           sym (join_below_more _ n max_buses few (λ j h. rw (fails (has j (rows i)) (λ e. omega (arith, low i j b e)), and-false (ltb i j))))
           ∙ join_below-same _ _ max_buses λ j h.
           let first : i ≡ (i * max_buses + j) / max_buses = omega arith in
@@ -68,7 +68,7 @@ module _ (n : ℕ) (rows : ℕ → List ℕ) where
       pub joined-pairs : join_below n (λ i. join_below n (λ j. cond (ltb i j && has j (rows i)) (g i j) [])) ≡ join_below (length (pairs n rows)) (λ k. g (lower_bus n rows k) (upper_bus n rows k))
       unfolding pairs at-number
       joined-pairs =
-          join_below-same _ _ n at-bus ∙ sym (join_below-times n max_buses at-number) ∙ join_below_passing (λ c. g (c / max_buses) (c % max_buses)) (is_pair rows) (n * max_buses)
+          join_below-same _ _ n at_bus ∙ sym (join_below-times n max_buses at-number) ∙ join_below_passing (λ c. g (c / max_buses) (c % max_buses)) (is_pair rows) (n * max_buses)
 
     -- so is the list itself: the pairs of each bus in turn
     pub pairs-joined : pairs n rows ≡ join_below n (λ i. join_below n (λ j. cond (ltb i j && has j (rows i)) (pair_number i j ∷ []) []))
@@ -91,7 +91,7 @@ module _ (t : List ℕ) (w : Holds t) where
   mirror = w.mirrored
 
   pub neighbour-below : (i j : ℕ) → i < n → has j (row t i) ≡ true → j < n
-  neighbour-below i j b h = valid-below (row-valid w.shape i b) j (has_in j (row t i) h)
+  neighbour-below i j b h = valid_below (row_valid w.shape i b) j (has_in j (row t i) h)
 
   -- its pairs are as many as its lines, which count each at its higher bus
   counted : sum_below n (λ i. count_below n (λ j. ltb i j && has j (row t i))) ≡ lines t
@@ -104,9 +104,9 @@ module _ (t : List ℕ) (w : Holds t) where
   mark : Bool → List ℕ
   mark b = cond b (0 ∷ []) []
 
-  length-mark : (b : Bool) → length (mark b) ≡ indicator b
+  length_mark : (b : Bool) → length (mark b) ≡ indicator b
   unfolding mark
-  length-mark b = split b (λ e. rw e) (λ e. rw e)
+  length_mark b = split b (λ e. rw e) (λ e. rw e)
 
   pub length_pairs : length (pairs n (row t)) ≡ lines t
   unfolding mark
@@ -116,7 +116,7 @@ module _ (t : List ℕ) (w : Holds t) where
         arith,
         ap length (joined-pairs n (row t) w.shape.complete.most neighbour-below (λ i j. mark true)),
         length-join_below n marked,
-        sum_below-same (λ i. length (marked i)) _ n (λ i b. length-join_below n (λ j. mark (ltb i j && has j (row t i))) ∙ sum_below-same _ _ n (λ j c. length-mark (ltb i j && has j (row t i)))),
+        sum_below-same (λ i. length (marked i)) _ n (λ i b. length-join_below n (λ j. mark (ltb i j && has j (row t i))) ∙ sum_below-same _ _ n (λ j c. length_mark (ltb i j && has j (row t i)))),
         counted,
         length-join_below (length (pairs n (row t))) (λ k. mark true),
         sum_below_const 1 (length (pairs n (row t))),

@@ -7,8 +7,8 @@ use Rattle.refusals.specs.Due.{Answered}
 use Rattle.table_spec.specs.Layout.{bus_count, row_start, degree}
 use Rattle.table_spec.specs.Holds.{holds}
 use Rattle.table_spec.specs.TableOutcomes.{bus_causes, row_place_outcome, RowStands}
-use Rattle.table_spec.specs.Rows.{row_within, row-stands}
-use Rattle.table_spec.specs.Facts.{holds-facts}
+use Rattle.table_spec.specs.Rows.{row_within, row_stands}
+use Rattle.table_spec.specs.Facts.{holds_facts}
 
 -- THE ROW STANDS THERE: the place that is given for a row holds it, whatever the slice and the bus
 pub row_placed : (t : List ℕ) (bus : ℕ) → RowStands t bus (row_place_outcome t bus)
@@ -16,9 +16,9 @@ row_placed t bus =
     split (holds t)
     (λ h. split (ltb bus (bus_count t))
     (λ g.
-    let w = (holds-facts t h).shape in
+    let w = (holds_facts t h).shape in
     let b = ltb-true bus (bus_count t) g in
-    rw (h, g) (row_within t w bus b, rw (h, g) (row-stands t w bus b)))
+    rw (h, g) (row_within t w bus b, rw (h, g) (row_stands t w bus b)))
     (λ g. rw (h, g) (rw (h, g))))
     (λ h. rw h (rw h))
 

@@ -37,20 +37,20 @@ module _ (n : ℕ) (s l : List ℕ) (w : Spans n s l) where
 
 -- the numbers of a valid row: each once, below n, not i
 module _ {n i : ℕ} {r : List ℕ} (w : ValidRow n i r) where
-  pub valid-once : Once r
-  valid-once = ascending_once r w.ascends
+  pub valid_once : Once r
+  valid_once = ascending_once r w.ascends
 
-  pub valid-below : (x : ℕ) → x ∈ r → x < n
-  valid-below x m = let k = at_in x r m in omega (arith, w.below k.0 k.1, k.2)
+  pub valid_below : (x : ℕ) → x ∈ r → x < n
+  valid_below x m = let k = at_in x r m in omega (arith, w.below k.0 k.1, k.2)
 
-  pub valid-others : i ∈ r → ⊥
-  valid-others m = let k = at_in i r m in w.others k.0 k.1 k.2
+  pub valid_others : i ∈ r → ⊥
+  valid_others m = let k = at_in i r m in w.others k.0 k.1 k.2
 
 -- a valid row without some of its numbers is one
 pub valid_without : {n i : ℕ} {r : List ℕ} (s : List ℕ) → ValidRow n i r → ValidRow n i (without s r)
 valid_without {n} {i} {r} s w = record {
-  below = λ k b. valid-below w _ (of_without s r _ (in_at (without s r) k b));
-  others = λ k b e. valid-others w (of_without s r i (rw e at (in_at (without s r) k b)));
+  below = λ k b. valid_below w _ (of_without s r _ (in_at (without s r) k b));
+  others = λ k b e. valid_others w (of_without s r i (rw e at (in_at (without s r) k b)));
   ascends = ascends_without s r w.ascends;
 }
 
@@ -103,19 +103,19 @@ module _ (from : ℕ) (t : List ℕ) (w : Complete from t) where
   unfolding neighbour_numbers
   length-numbers = let a = length_part (from + bus_count t + 1) (entries from t) t w.whole in omega arith
 
-  pub last-start : at (starts from t) (bus_count t) ≡ last from t
+  pub last_start : at (starts from t) (bus_count t) ≡ last from t
   unfolding starts
-  last-start = at_part from (from + bus_count t + 1) t (bus_count t) (omega arith)
+  last_start = at_part from (from + bus_count t + 1) t (bus_count t) (omega arith)
 
   pub room : (bus_count t < length (starts from t)) × (at (starts from t) (bus_count t) ≤ length (neighbour_numbers from t))
-  room = (omega (arith, length-starts), omega (arith, last-start, length-numbers))
+  room = (omega (arith, length-starts), omega (arith, last_start, length-numbers))
 
 -- ---- the rows of a table that can be scored: they are valid, and short
 
 module _ {t : List ℕ} (w : Scorable t) where
-  pub row-valid : (i : ℕ) → i < bus_count t → ValidRow (bus_count t) i (row t i)
+  pub row_valid : (i : ℕ) → i < bus_count t → ValidRow (bus_count t) i (row t i)
   unfolding row
-  row-valid i b = w.rows.valid i b
+  row_valid i b = w.rows.valid i b
 
   pub degree-le : (i : ℕ) → i < bus_count t → degree t i ≤ max_degree
   unfolding row
@@ -146,6 +146,6 @@ module _ (t : List ℕ) (w : Scorable t) (i : ℕ) (b : i < bus_count t) where
   row_within = omega (arith, ends, next, w.complete.whole)
 
   -- the entries from its start on, as many as it has, are the row
-  pub row-stands : part (row_start t i) (row_start t i + degree t i) t ≡ row t i
+  pub row_stands : part (row_start t i) (row_start t i + degree t i) t ≡ row t i
   unfolding row row_at neighbour_numbers
-  row-stands = ap (λ e. part (row_start t i) e t) ends ∙ sym (part-part (at s i) (at s (i + 1)) first (entries (starts_at t) t) t (omega (arith, next)))
+  row_stands = ap (λ e. part (row_start t i) e t) ends ∙ sym (part-part (at s i) (at s (i + 1)) first (entries (starts_at t) t) t (omega (arith, next)))

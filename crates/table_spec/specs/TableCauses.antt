@@ -9,17 +9,17 @@ use Rattle.table_spec.specs.TableOutcomes.{on_table}
 module _ {A B : Type 0} {cs : List Cause} {values : A} {s x : B} where
   module _ {held : Bool} where
     -- a slice that holds no network is refused
-    pub no-network : held ≡ false → Due (on_table held cs) values s x (refuses 11) x
-    no-network h = stop (ap not h)
+    pub no_network : held ≡ false → Due (on_table held cs) values s x (refuses 11) x
+    no_network h = stop (ap not h)
 
     -- where it holds one, the call's own causes decide
-    pub on-held : {o : Outcome A} {y : B} → held ≡ true → Due cs values s x o y → Due (on_table held cs) values s x o y
-    on-held h d = pass (ap not h) d
+    pub on_held : {o : Outcome A} {y : B} → held ≡ true → Due cs values s x o y → Due (on_table held cs) values s x o y
+    on_held h d = pass (ap not h) d
 
   -- the cause of a call on a bus of n; the bus count was read into m
   module _ {n m bus : ℕ} (e : m ≡ n) where
-    pub no-bus : m ≤ bus → Due ((not (ltb bus n) ⇒ NoSuchBus) ∷ cs) values s x (refuses 13) x
-    no-bus g = stop (ap not (le-ltb bus n (omega arith)))
+    pub no_bus : m ≤ bus → Due ((not (ltb bus n) ⇒ NoSuchBus) ∷ cs) values s x (refuses 13) x
+    no_bus g = stop (ap not (le-ltb bus n (omega arith)))
 
-    pub on-bus : {o : Outcome A} {y : B} → bus < m → Due cs values s x o y → Due ((not (ltb bus n) ⇒ NoSuchBus) ∷ cs) values s x o y
-    on-bus g d = pass (ap not (lt-ltb bus n (omega arith))) d
+    pub on_bus : {o : Outcome A} {y : B} → bus < m → Due cs values s x o y → Due ((not (ltb bus n) ⇒ NoSuchBus) ∷ cs) values s x o y
+    on_bus g d = pass (ap not (lt-ltb bus n (omega arith))) d

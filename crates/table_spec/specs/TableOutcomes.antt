@@ -3,7 +3,7 @@
 use Rattle.std.specs.Prelude.{Bool, not, List, [], ◌∷◌, ◌≡◌, ℕ, ◌+◌, ◌≤◌, ltb, length}
 use Rattle.lists.specs.Lists.{part}
 use Rattle.refusals.specs.declared.Refusal.TheVariants.{NoNetwork, NoSuchBus}
-use Rattle.refusals.specs.Outcomes.{Outcome, gives, refuses, Cause, ◌⇒◌, outcome, valuesOr}
+use Rattle.refusals.specs.Outcomes.{Outcome, gives, refuses, Cause, ◌⇒◌, outcome, values_or}
 use Rattle.table_spec.specs.Layout.{bus_count, needs, weights, row, row_start, degree}
 use Rattle.table_spec.specs.Holds.{holds}
 
@@ -20,11 +20,11 @@ degree_outcome t bus = outcome (bus_causes (holds t) (bus_count t) bus) (degree 
 
 -- the neighbours of a bus; the empty part where Degree would refuse
 abbrev pub row_outcome : List ℕ → ℕ → List ℕ
-row_outcome t bus = valuesOr [] (outcome (bus_causes (holds t) (bus_count t) bus) (row t bus))
+row_outcome t bus = values_or [] (outcome (bus_causes (holds t) (bus_count t) bus) (row t bus))
 
 -- how many entries of the slice stand before that part: none where it is empty by refusal
 abbrev pub row_before : List ℕ → ℕ → ℕ
-row_before t bus = valuesOr 0 (outcome (bus_causes (holds t) (bus_count t) bus) (row_start t bus))
+row_before t bus = values_or 0 (outcome (bus_causes (holds t) (bus_count t) bus) (row_start t bus))
 
 -- where the row of a bus begins in the slice, and how many entries it has: Row for callers who cannot be handed a part of a slice
 abbrev pub row_place_outcome : List ℕ → ℕ → Outcome (ℕ × ℕ)

@@ -59,20 +59,20 @@ digits_value-append a (x ∷ l) b = digits_value-append (a * 10 + (x - 48)) l b
 
 -- what holds of one digit, and of a number if it holds of a tenth of it, holds of all
 module _ (P : ℕ → Type 0) (small : (n : ℕ) → n < 10 → P n) (large : (n : ℕ) → 10 ≤ n → P (n / 10) → P n) where
-  by-tenths-bounded : (most n : ℕ) → n ≤ most → P n
-  by-tenths-bounded zero n h = small n (omega arith)
-  by-tenths-bounded (suc most) n h =
+  by_tenths_bounded : (most n : ℕ) → n ≤ most → P n
+  by_tenths_bounded zero n h = small n (omega arith)
+  by_tenths_bounded (suc most) n h =
       split (ltb n 10)
       (λ e. small n (ltb-true n 10 e))
-      (λ e. let g : 10 ≤ n = ltb-false n 10 e in large n g (by-tenths-bounded most (n / 10) (omega arith)))
+      (λ e. let g : 10 ≤ n = ltb-false n 10 e in large n g (by_tenths_bounded most (n / 10) (omega arith)))
 
-  by-tenths : (n : ℕ) → P n
-  by-tenths n = by-tenths-bounded n n (le_refl n)
+  by_tenths : (n : ℕ) → P n
+  by_tenths n = by_tenths_bounded n n (le_refl n)
 
 -- which is the number itself
 pub decimal-value : (n : ℕ) → digits_value 0 (decimal n) ≡ n
 decimal-value =
-    by-tenths (λ n. digits_value 0 (decimal n) ≡ n)
+    by_tenths (λ n. digits_value 0 (decimal n) ≡ n)
     (λ n l. ap (digits_value 0) (decimal_small n l) ∙ omega arith)
     (λ n l e. ap (digits_value 0) (decimal-large n l) ∙ digits_value-append 0 (decimal (n / 10)) _ ∙ omega (arith, e))
 
@@ -80,6 +80,6 @@ decimal-value =
 pub no_leading_zero : (n : ℕ) → 0 < n → 48 < at (decimal n) 0
 unfolding at
 no_leading_zero =
-    by-tenths (λ n. 0 < n → 48 < at (decimal n) 0)
+    by_tenths (λ n. 0 < n → 48 < at (decimal n) 0)
     (λ n l p. rw (decimal_small n l) (omega arith))
     (λ n l q p. rw (decimal-large n l, at-append (decimal (n / 10)) (digit (n % 10) ∷ []) 0 (decimal_pos (n / 10))) (q (omega arith)))

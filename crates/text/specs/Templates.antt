@@ -64,15 +64,15 @@ module _ (t values : List ℕ) (k : ℕ) {j : ℕ} (e : j ≡ count sign (take k
 
   -- the byte, which was read into b, is a `#`: its number is there
   module _ {b : ℕ} (r : b ≡ at t k) (q : b ≡ sign) where
-    pub sign-step : Step t values k (decimal (at values j)) (j + 1)
-    sign-step =
+    pub sign_step : Step t values k (decimal (at values j)) (j + 1)
+    sign_step =
         let s = sym r ∙ q in
         step (decimal (at values j)) (j + 1)
         (ap (λ b. filled (b ∷ []) (drop j values)) s ∙ one-sign (drop j values) ∙ ap decimal (at_drop j values 0 ∙ ap (at values) (add-zero j)))
         (ap (λ b. j + count sign (b ∷ [])) (sym s))
 
-    pub sign-there : count sign t ≤ length values → j < length values
-    sign-there h = omega (arith, sign-step.next, count-take-le t (k + 1))
+    pub sign_there : count sign t ≤ length values → j < length values
+    sign_there h = omega (arith, sign_step.next, count-take-le t (k + 1))
 
   -- it is another
   pub byte_step : {b : ℕ} → b ≡ at t k → (b ≡ sign → ⊥) → Step t values k (b ∷ []) j

@@ -3,7 +3,7 @@ use Rattle.std.specs.Prelude.{List, ◌∷◌, ◌≡◌}
 use Rattle.std.proofs.Common.{ap, ◌∙◌, add_comm, one-mul}
 use Rattle.std.proofs.Math.Path.{ap₂}
 use Prim.Native.Nat.{ℕ, ◌+◌, ◌/◌, ◌<◌}
-use Rattle.lists.specs.Lists.{sumBy, ◌∈◌}
+use Rattle.lists.specs.Lists.{sum_by, ◌∈◌}
 use Rattle.lists.specs.Counts.{in_has, has_in, in_length, sum_by_cong_in}
 use Rattle.game.specs.Game.{own, neighbour}
 use Rattle.game.specs.Terms.{own-one, neighbour-one}
@@ -32,6 +32,6 @@ module _ {t : List ℕ} (w : Holds t) (needs : (u : ℕ) → u < bus_count t →
       rw (needs u c, weights u c) (one-mul _ ∙ neighbour-one (degree t u) L (has-degree w v u b c m) ∙ ap (λ n. L / n) (add_comm (degree t u) 1))
 
   -- a bus without neighbours included; all are whole numbers, since each 1 + d divides L
-  pub first-game : (v : ℕ) → v < bus_count t → numerator (network_of t) v ≡ sumBy (λ u. denominator (network_of t) / (1 + degree t u)) (v ∷ row t v)
+  pub first_game : (v : ℕ) → v < bus_count t → numerator (network_of t) v ≡ sum_by (λ u. denominator (network_of t) / (1 + degree t u)) (v ∷ row t v)
   unfolding numerator_over
-  first-game v b = ap₂ ◌+◌ (own-part v b) (sum_by_cong_in (row t v) (λ u m. neighbour-part v u b m))
+  first_game v b = ap₂ ◌+◌ (own-part v b) (sum_by_cong_in (row t v) (λ u m. neighbour-part v u b m))

@@ -5,10 +5,10 @@ use Rattle.lists.specs.SumsBelow.{sum_below-le, sum_below_const}
 use Rattle.table_spec.specs.Limits.{max_weight}
 use Rattle.table_spec.specs.Layout.{bus_count, row, starts, neighbour_numbers, starts_at}
 use Rattle.table_spec.specs.Holds.{holds, Scorable, Mirrored}
-use Rattle.table_spec.specs.Facts.{holds-facts}
-use Rattle.table_spec.specs.Rows.{valid-once, valid-below, row-valid}
+use Rattle.table_spec.specs.Facts.{holds_facts}
+use Rattle.table_spec.specs.Rows.{valid_once, valid_below, row_valid}
 use Rattle.share_spec.specs.Network.{total_weight, Watching, Sound}
-use Rattle.share_spec.specs.TableGame.{game-on, own-pos, own-over, over-whole}
+use Rattle.share_spec.specs.TableGame.{game_on, own_pos, own_over, over_whole}
 use Rattle.two_way.specs.TwoWay.{network_of}
 
 -- no bus weighs more than it may
@@ -18,16 +18,16 @@ total_weight-le {t} w = rw (← sum_below_const max_weight (bus_count t)) (sum_b
 
 module _ {t : List ℕ} (w : Scorable t) (m : Mirrored (bus_count t) (starts (starts_at t) t) (neighbour_numbers (starts_at t) t)) where
   -- SYMMETRY: v watches just the buses that watch it. Of shares, only this rests on the table being mirrored
-  two-way : (u v : ℕ) → u < bus_count t → v < bus_count t → has v (row t u) ≡ has u (row t v)
+  two_way_lem : (u v : ℕ) → u < bus_count t → v < bus_count t → has v (row t u) ≡ has u (row t v)
   unfolding row
-  two-way u v = m u v
+  two_way_lem u v = m u v
 
   -- so the scope's terms, along a bus's own row, are the game's
   pub watching : Watching (network_of t)
-  watching = record { on = game-on w; once = λ v b. valid-once (row-valid w v b); inside = λ v b. valid-below (row-valid w v b); both = two-way }
+  watching = record { on = game_on w; once = λ v b. valid_once (row_valid w v b); inside = λ v b. valid_below (row_valid w v b); both = two_way_lem }
 
   pub sound : Sound (network_of t)
-  sound = record { watching = watching; positive = own-pos w; whole = over-whole w (own-over w refl) }
+  sound = record { watching = watching; positive = own_pos w; whole = over_whole w (own_over w refl) }
 
 pub held_sound : (t : List ℕ) → holds t ≡ true → Sound (network_of t)
-held_sound t h = let w = holds-facts t h in sound w.shape w.mirrored
+held_sound t h = let w = holds_facts t h in sound w.shape w.mirrored

@@ -2,7 +2,7 @@
 use Rattle.std.specs.Prelude.{false, List, ◌≡◌, ℕ, length}
 use Rattle.refusals.specs.Outcomes.{Outcome, refuses}
 use Rattle.refusals.specs.Due.{Due, both}
-use Rattle.table_spec.specs.TableCauses.{no-network}
+use Rattle.table_spec.specs.TableCauses.{no_network}
 use Rattle.share_spec.specs.Network.{Network}
 use Rattle.sheet.specs.LineOutcomes.{written}
 use Rattle.whole_sheet.specs.WholeSheet.{whole_sheet, sheet_causes, sheet_outcome, sheet_after}
@@ -14,4 +14,4 @@ sheet_due N x d = both d
 
 -- so a slice that holds no network is refused, however few bytes are lent, and they are kept
 pub none_held : (N : Network) (x : List ℕ) → N.held ≡ false → (refuses 11 ≡ sheet_outcome N (length x)) × (x ≡ sheet_after N x)
-none_held N x h = sheet_due N x (no-network h)
+none_held N x h = sheet_due N x (no_network h)

@@ -6,7 +6,7 @@ use Rattle.lists.specs.SumsBelow.{sum_below-le, sum_below_const}
 use Rattle.lists.specs.JoinBelow.{length-join_below}
 use Rattle.refusals.specs.Outcomes.{gives}
 use Rattle.refusals.specs.Due.{accept, not-below}
-use Rattle.table_spec.specs.TableCauses.{on-held}
+use Rattle.table_spec.specs.TableCauses.{on_held}
 use Rattle.share_spec.specs.Network.{Network}
 use Rattle.sheet.specs.Sheet.{sheet_line}
 use Rattle.sheet.specs.LineRoom.{longest_line, Short}
@@ -21,9 +21,9 @@ module _ {N : Network} (w : Short N) where
       omega (arith, length-join_below m (sheet_line N), sum_below-le (λ i. length (sheet_line N i)) (λ i. longest_line) m (λ i b. line_fits w i (omega arith)), sum_below_const longest_line m, w.buses)
 
   -- EVERY SHEET FITS
-  pub sheet-fits : length (whole_sheet N) ≤ longest_sheet
-  sheet-fits = lines_fit _ (omega arith)
+  pub sheet_fits : length (whole_sheet N) ≤ longest_sheet
+  sheet_fits = lines_fit _ (omega arith)
 
   -- so a call that is lent so many bytes is not refused for want of them
-  pub never-short : (x : List ℕ) → N.held ≡ true → longest_sheet ≤ length x → sheet_outcome N (length x) ≡ gives (length (whole_sheet N))
-  never-short x g h = sym (sheet_due N x (on-held g (not-below refl refl (le_trans sheet-fits h) (accept refl refl)))).0
+  pub never_short : (x : List ℕ) → N.held ≡ true → longest_sheet ≤ length x → sheet_outcome N (length x) ≡ gives (length (whole_sheet N))
+  never_short x g h = sym (sheet_due N x (on_held g (not-below refl refl (le_trans sheet_fits h) (accept refl refl)))).0

@@ -19,18 +19,18 @@ use Rattle.table_spec.specs.Facts.{holds_test}
 use Rattle.table_spec.specs.Lines.{pair_number, is_pair, pairs, lower_bus, upper_bus}
 use Rattle.network.specs.declared.Counts.{Counts}
 use Rattle.file_spec.specs.FileBytes.{file_bus_count, need_bytes, file_line_count, records_at, records_end, records, first_end, second_end}
-use Rattle.file_spec.specs.SoundSections.{length-records, ends-facts}
+use Rattle.file_spec.specs.SoundSections.{length-records, ends_facts}
 use Rattle.file_spec.specs.Records.{repeats, pair_count}
 use Rattle.file_spec.specs.RecordPairs.{joined_at, joined_by}
-use Rattle.file_spec.specs.OrderedRecords.{OrderedRecords, lower-first, rank_rises}
+use Rattle.file_spec.specs.OrderedRecords.{OrderedRecords, lower_first, rank_rises}
 use Rattle.read_spec.specs.ReadOutcome.{read_outcome, table_after, AsRecorded}
-use Rattle.read_spec.specs.ReadDecides.{whole, sound-ends, in_order}
+use Rattle.read_spec.specs.ReadDecides.{whole, sound_ends_lem, in_order}
 use Rattle.read_spec.specs.Recorded.{recorded}
 use Rattle.write_spec.specs.FileOf.{word, record_of, pair_records, weight_section, file_of}
 use Rattle.write_spec.specs.RoundTrip.{AreBytes, NoParallels, NoOnesSection, GivenBack}
 use Rattle.write_spec.specs.WrittenWords.{part_bytes, listed, records-listed}
 use Rattle.write_spec.specs.WrittenBytes.{sections_again}
-use Rattle.write_spec.specs.WrittenWeights.{section-again}
+use Rattle.write_spec.specs.WrittenWeights.{section_again}
 use Rattle.write_spec.specs.PairLaws.{records-pairs}
 use Rattle.write_spec.specs.WriteDue.{fitting}
 
@@ -52,7 +52,7 @@ module _ (f x : List ℕ) {c : Counts} (bytes : AreBytes f) (e : read_outcome f 
   stored = recorded f x e
 
   ordered : OrderedRecords n m r
-  ordered = record { buses = (whole f x e).first.buses; lines = (whole f x e).lines; ends = ends-facts n m r (sound-ends f x e); order = in_order f x e }
+  ordered = record { buses = (whole f x e).first.buses; lines = (whole f x e).lines; ends = ends_facts n m r (sound_ends_lem f x e); order = in_order f x e }
 
   -- the number of the pair that record k names
   number : ℕ → ℕ
@@ -62,18 +62,18 @@ module _ (f x : List ℕ) {c : Counts} (bytes : AreBytes f) (e : read_outcome f 
   unfolding number
   first_of k h = omega (arith, (ordered.ends k h).1, ordered.buses)
 
-  second-of : (k : ℕ) → k < m → number k % max_buses ≡ second_end r k
+  second_of : (k : ℕ) → k < m → number k % max_buses ≡ second_end r k
   unfolding number
-  second-of k h = omega (arith, (ordered.ends k h).1, ordered.buses)
+  second_of k h = omega (arith, (ordered.ends k h).1, ordered.buses)
 
   new : (k : ℕ) → k < m → repeats r k ≡ false
   unfolding pair_count
   new k h = not-true (repeats r k) (count_below-all (λ k. not (repeats r k)) m single h)
 
   -- these are the numbers of the table's pairs
-  to-pairs : (y : ℕ) → has y (map_below m number) ≡ true → (ltb y (n * max_buses) && is_pair (row t) y) ≡ true
+  to_pairs : (y : ℕ) → has y (map_below m number) ≡ true → (ltb y (n * max_buses) && is_pair (row t) y) ≡ true
   unfolding number
-  to-pairs y h =
+  to_pairs y h =
       let z = of_map_below number m y (has_in y (map_below m number) h) in
       let k = z.0 in
       let a = first_end r k in
@@ -82,11 +82,11 @@ module _ (f x : List ℕ) {c : Counts} (bytes : AreBytes f) (e : read_outcome f 
       let joins : has b (row t a) ≡ true = stored.joining a b s.0 ∙ joined_by m r a b k z.1 refl refl in
       and_both (ltb y (n * max_buses)) (is_pair (row t) y) (lt-ltb y (n * max_buses) (omega (arith, z.2, s.0, s.1, ordered.buses)))
       (subst (λ y. is_pair (row t) y ≡ true) z.2
-      (rw (first_of k z.1, second-of k z.1) (and_both (ltb a b) (has b (row t a)) (lt-ltb a b (lower-first ordered k z.1)) joins)))
+      (rw (first_of k z.1, second_of k z.1) (and_both (ltb a b) (has b (row t a)) (lt-ltb a b (lower_first ordered k z.1)) joins)))
 
-  of-pairs : (y : ℕ) → (ltb y (n * max_buses) && is_pair (row t) y) ≡ true → has y (map_below m number) ≡ true
+  of_pairs : (y : ℕ) → (ltb y (n * max_buses) && is_pair (row t) y) ≡ true → has y (map_below m number) ≡ true
   unfolding number
-  of-pairs y h =
+  of_pairs y h =
       let a = y / max_buses in
       let b = y % max_buses in
       let low : y < n * max_buses = ltb-true y (n * max_buses) (and_left (ltb y (n * max_buses)) (is_pair (row t) y) h) in
@@ -96,7 +96,7 @@ module _ (f x : List ℕ) {c : Counts} (bytes : AreBytes f) (e : read_outcome f 
       ⊎_elim
       (λ q. let same : number z.0 ≡ y = omega (arith, q.0, q.1) in
       in_has y (map_below m number) (subst (λ y. y ∈ map_below m number) same (in_map_below number m z.1)))
-      (λ q. absurd (omega (arith, q.0, q.1, lower-first ordered z.0 z.1)))
+      (λ q. absurd (omega (arith, q.0, q.1, lower_first ordered z.0 z.1)))
       z.2
 
   same-pairs : pairs n (row t) ≡ map_below m number
@@ -104,7 +104,7 @@ module _ (f x : List ℕ) {c : Counts} (bytes : AreBytes f) (e : read_outcome f 
   same-pairs =
       list_below_by (n * max_buses) (is_pair (row t)) (map_below m number)
       (map_below_ascends number m (λ j k l h. rank_rises ordered j k l h (new k h)))
-      (λ y. same_test (has y (map_below m number)) (ltb y (n * max_buses) && is_pair (row t) y) (to-pairs y) (of-pairs y))
+      (λ y. same_test (has y (map_below m number)) (ltb y (n * max_buses) && is_pair (row t) y) (to_pairs y) (of_pairs y))
 
   same_lines : lines t ≡ m
   same_lines = stored.lined ∙ single
@@ -116,22 +116,22 @@ module _ (f x : List ℕ) {c : Counts} (bytes : AreBytes f) (e : read_outcome f 
       let number_at : (k : ℕ) → k < m → at (pairs n (row t)) k ≡ number k = λ k h. ap (λ l. at l k) same-pairs ∙ map_below-at number m h in
       records-pairs t stored.holding
       ∙ ap₂ (λ n m. listed (lower_bus n (row t)) (upper_bus n (row t)) m) stored.buses same_lines
-      ∙ join_below-same _ _ m (λ k h. ap₂ record_of (ap (λ c. c / max_buses) (number_at k h) ∙ first_of k h) (ap (λ c. c % max_buses) (number_at k h) ∙ second-of k h))
+      ∙ join_below-same _ _ m (λ k h. ap₂ record_of (ap (λ c. c / max_buses) (number_at k h) ∙ first_of k h) (ap (λ c. c % max_buses) (number_at k h) ∙ second_of k h))
       ∙ records-listed m r (length-records (whole f x e)) (part_bytes (records_at f) (records_end f) f bytes)
 
   -- and so is its section of weights, unless that is of all ones
-  file-again : NoOnesSection f → file_of (table_after f x) ≡ f
+  file_again : NoOnesSection f → file_of (table_after f x) ≡ f
   unfolding file_of
-  file-again varied =
+  file_again varied =
       ap₂ (λ n q. word n ++ (q ++ (word (lines t) ++ (pair_records (bus_count t) (row t) ++ weight_section (weights t))))) stored.buses stored.needed
       ∙ ap₂ (λ m r. word n ++ (need_bytes f ++ (word m ++ (r ++ weight_section (weights t))))) same_lines same-records
-      ∙ ap (λ s. word n ++ (need_bytes f ++ (word m ++ (r ++ s)))) (ap weight_section stored.weighed ∙ section-again f (whole f x e) bytes varied)
+      ∙ ap (λ s. word n ++ (need_bytes f ++ (word m ++ (r ++ s)))) (ap weight_section stored.weighed ∙ section_again f (whole f x e) bytes varied)
       ∙ sections_again f (whole f x e) bytes
 
 -- GIVEN BACK: of every file f that Read accepts, into whatever slice x, and that has neither parallel circuits nor a section of all ones, the writer
 -- writes f from the slice as Read left it, over the front of whatever bytes y it is lent, if they are as many
 pub given_back : (f x y : List ℕ) {c : Counts} → AreBytes f → read_outcome f (length x) ≡ gives c → NoParallels f → NoOnesSection f → length f ≤ length y → GivenBack f (table_after f x) y
 given_back f x y bytes e single varied h =
-    let again = file-again f x bytes e single varied in
+    let again = file_again f x bytes e single varied in
     let s = fitting (table_after f x) (holds_test (table_after f x) (recorded f x e).holding) y (omega (arith, ap length again)) in
     record { answer = s.0 ∙ ap (λ l. gives (length l)) again; written = s.1 ∙ ap (put y 0) again }

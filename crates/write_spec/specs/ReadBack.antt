@@ -5,7 +5,7 @@ use Rattle.std.proofs.Math.Path.{sym, ap}
 use Rattle.std.proofs.Math.ListN.{take}
 use Rattle.lists.specs.Lists.{has, put}
 use Rattle.lists.specs.Tests.{split, same_test}
-use Rattle.lists.specs.Loops.{allBelow-by}
+use Rattle.lists.specs.Loops.{all_below_by}
 use Rattle.lists.specs.Counts.{has_in}
 use Rattle.lists.specs.JoinBelow.{join_below-same}
 use Rattle.lists.specs.ListBelow.{list_below-same, list_below_members}
@@ -14,30 +14,30 @@ use Rattle.refusals.specs.Outcomes.{gives}
 use Rattle.table_spec.specs.Limits.{max_need, max_weight}
 use Rattle.table_spec.specs.Layout.{bus_count, needs, weights, entries, starts_at, row, lines, table_entries, table_of}
 use Rattle.table_spec.specs.Holds.{Holds}
-use Rattle.table_spec.specs.Rows.{valid-below, valid-others, length-needs, length-weights, row-valid, degree-le}
-use Rattle.table_spec.specs.Facts.{range-test, holds-facts, holds-needs, holds-weights}
+use Rattle.table_spec.specs.Rows.{valid_below, valid_others, length-needs, length-weights, row_valid, degree-le}
+use Rattle.table_spec.specs.Facts.{range_test, holds_facts, holds-needs, holds-weights}
 use Rattle.table_spec.specs.Lines.{lower_bus, upper_bus}
 use Rattle.table_spec.specs.LineCount.{length-rows, lines-le, entries-all}
-use Rattle.table_spec.specs.LinePairs.{pairs-in, in_pairs, pairs-ascend, mirror, neighbour-below, length_pairs}
+use Rattle.table_spec.specs.LinePairs.{pairs_in, in_pairs, pairs_ascend, mirror, neighbour-below, length_pairs}
 use Rattle.table_spec.specs.Laid.{laid_same}
 use Rattle.table_spec.specs.LaidAgain.{made_again}
 use Rattle.file_spec.specs.FileBytes.{file_bus_count, need_bytes, file_line_count, records_end, records, first_end, second_end, file_weights}
-use Rattle.file_spec.specs.SoundSections.{SoundWeightSection, SoundSections, SoundEnds, ends-test}
+use Rattle.file_spec.specs.SoundSections.{SoundWeightSection, SoundSections, SoundEnds, ends_test}
 use Rattle.file_spec.specs.RecordOrder.{out_of_order}
 use Rattle.file_spec.specs.Records.{joined, neighbours, degree_too_high, need_above_degree, pair_count}
 use Rattle.file_spec.specs.RecordPairs.{joined_sym, joined_at, joined_by, rows-length}
-use Rattle.file_spec.specs.RecordNeighbours.{degrees-test}
+use Rattle.file_spec.specs.RecordNeighbours.{degrees_test}
 use Rattle.file_spec.specs.OrderedRecords.{order_test}
 use Rattle.read_spec.specs.ReadOutcome.{network_counts, read_outcome, file_table, stored_table}
-use Rattle.read_spec.specs.ReadDecides.{read-accepts, table-stored}
+use Rattle.read_spec.specs.ReadDecides.{read_accepts, table_stored}
 use Rattle.write_spec.specs.FileOf.{pair_records, weight_section, file_of}
 use Rattle.write_spec.specs.WriteOutcome.{write_outcome, bytes_after}
 use Rattle.write_spec.specs.RoundTrip.{ReadBack}
-use Rattle.write_spec.specs.WrittenWords.{first-written, second-written}
-use Rattle.write_spec.specs.WrittenBytes.{buses-written, needs-written, lines-written, records-written}
-use Rattle.write_spec.specs.WrittenWeights.{weights-written, third-written}
-use Rattle.write_spec.specs.WriteDue.{accepted-holds, accepted-fits, accepted-bytes, fitting}
-use Rattle.write_spec.specs.PairLaws.{records-pairs, length-pairRecords, length-fileOf}
+use Rattle.write_spec.specs.WrittenWords.{first-written, second_written}
+use Rattle.write_spec.specs.WrittenBytes.{buses_written, needs-written, lines-written, records-written}
+use Rattle.write_spec.specs.WrittenWeights.{weights-written, third_written}
+use Rattle.write_spec.specs.WriteDue.{accepted_holds, accepted_fits, accepted_bytes, fitting}
+use Rattle.write_spec.specs.PairLaws.{records-pairs, length-pair_records, length-file_of}
 
 -- ---- what the records of a network's file say
 
@@ -52,15 +52,15 @@ module _ (t : List ℕ) (w : Holds t) where
   r = pair_records n (row t)
 
   -- record k names pair k
-  first-named : (k : ℕ) → k < m → first_end r k ≡ lower_bus n (row t) k
-  first-named k h = ap (λ l. first_end l k) (records-pairs t w) ∙ first-written (lower_bus n (row t)) (upper_bus n (row t)) m h
+  first_named : (k : ℕ) → k < m → first_end r k ≡ lower_bus n (row t) k
+  first_named k h = ap (λ l. first_end l k) (records-pairs t w) ∙ first-written (lower_bus n (row t)) (upper_bus n (row t)) m h
 
-  second-named : (k : ℕ) → k < m → second_end r k ≡ upper_bus n (row t) k
-  second-named k h = ap (λ l. second_end l k) (records-pairs t w) ∙ second-written (lower_bus n (row t)) (upper_bus n (row t)) m h
+  second_named : (k : ℕ) → k < m → second_end r k ≡ upper_bus n (row t) k
+  second_named k h = ap (λ l. second_end l k) (records-pairs t w) ∙ second_written (lower_bus n (row t)) (upper_bus n (row t)) m h
 
   -- which are two neighbours, the lower first
   named : (k : ℕ) → k < m → (first_end r k < n) × (first_end r k < second_end r k) × (has (second_end r k) (row t (first_end r k)) ≡ true)
-  named k h = rw (first-named k h, second-named k h) (pairs-in n (row t) k (omega (arith, length_pairs t w)))
+  named k h = rw (first_named k h, second_named k h) (pairs_in n (row t) k (omega (arith, length_pairs t w)))
 
   ends : SoundEnds n m r
   ends k h = let z = named k h in (z.0, neighbour-below t w _ _ z.0 z.2, λ e. omega (arith, z.1, e))
@@ -70,11 +70,11 @@ module _ (t : List ℕ) (w : Holds t) where
       order_test m r (λ k h. ((named k h).1, omega (arith, (ends k h).1, w.shape.complete.most)))
       (λ j k l h. omega (
         arith,
-        first-named j (omega arith),
-        second-named j (omega arith),
-        first-named k h,
-        second-named k h,
-        pairs-ascend n (row t) j k l (omega (arith, length_pairs t w)),
+        first_named j (omega arith),
+        second_named j (omega arith),
+        first_named k h,
+        second_named k h,
+        pairs_ascend n (row t) j k l (omega (arith, length_pairs t w)),
       ))
 
   -- two buses are joined exactly if they are neighbours
@@ -82,10 +82,10 @@ module _ (t : List ℕ) (w : Holds t) where
   recorded i j b l h =
       let z = in_pairs n (row t) w.shape.complete.most (neighbour-below t w) i j b l h in
       let k : z.0 < m = omega (arith, z.1, length_pairs t w) in
-      joined_by m r i j z.0 k (first-named z.0 k ∙ z.2) (second-named z.0 k ∙ z.3)
+      joined_by m r i j z.0 k (first_named z.0 k ∙ z.2) (second_named z.0 k ∙ z.3)
 
   joined-row : (i j : ℕ) → i < n → joined m r i j ≡ has j (row t i)
-  joined-row i j b = same_test (joined m r i j) (has j (row t i)) to_row to-joined
+  joined-row i j b = same_test (joined m r i j) (has j (row t i)) to_row to_joined
     where
       to_row : joined m r i j ≡ true → has j (row t i) ≡ true
       to_row h =
@@ -96,12 +96,12 @@ module _ (t : List ℕ) (w : Holds t) where
           (λ e. mirror t w i j b (omega (arith, e.0, k.0)) ∙ sym (ap₂ (λ a b. has b (row t a)) e.0 e.1) ∙ k.2)
           z.2
 
-      to-joined : has j (row t i) ≡ true → joined m r i j ≡ true
-      to-joined h =
+      to_joined : has j (row t i) ≡ true → joined m r i j ≡ true
+      to_joined h =
           let c = neighbour-below t w i j b h in
           split (ltb i j)
           (λ e. recorded i j b (ltb-true i j e) h)
-          (λ e. let d : i ≡ j → ⊥ = λ q. valid-others (row-valid w.shape i b) (has_in i (row t i) (ap (λ x. has x (row t i)) q ∙ h)) in
+          (λ e. let d : i ≡ j → ⊥ = λ q. valid_others (row_valid w.shape i b) (has_in i (row t i) (ap (λ x. has x (row t i)) q ∙ h)) in
           let g = ltb-false i j e in
           joined_sym m r i j ∙ recorded j i c (omega (arith, d)) (sym (mirror t w i j b c) ∙ h))
 
@@ -109,14 +109,14 @@ module _ (t : List ℕ) (w : Holds t) where
   neighbours-row : (i : ℕ) → i < n → neighbours n m r i ≡ row t i
   unfolding neighbours
   neighbours-row i b =
-      let v = row-valid w.shape i b in
-      list_below-same _ _ n (λ j c. joined-row i j b) ∙ list_below_members n (row t i) v.ascends (valid-below v)
+      let v = row_valid w.shape i b in
+      list_below-same _ _ n (λ j c. joined-row i j b) ∙ list_below_members n (row t i) v.ascends (valid_below v)
 
   degrees : degree_too_high n m r ≡ false
-  degrees = degrees-test n m r (λ i b. rw (neighbours-row i b) (degree-le w.shape i b))
+  degrees = degrees_test n m r (λ i b. rw (neighbours-row i b) (degree-le w.shape i b))
 
   met : need_above_degree n (needs t) m r ≡ false
-  met = ap not (allBelow-by _ n (λ i b. rw (neighbours-row i b) (w.met i b)))
+  met = ap not (all_below_by _ n (λ i b. rw (neighbours-row i b) (w.met i b)))
 
   -- and no pair is named twice
   once : pair_count m r ≡ m
@@ -131,7 +131,7 @@ module _ (t : List ℕ) (w : Holds t) where
   long = length-needs t w.shape.complete
 
   full : length r ≡ 4 * m
-  full = length-pairRecords t w
+  full = length-pair_records t w
 
   abbrev s : List ℕ
   s = weight_section (weights t)
@@ -139,9 +139,9 @@ module _ (t : List ℕ) (w : Holds t) where
   wide : length (weights t) ≡ n
   wide = length-weights t w.shape.complete
 
-  same-buses : file_bus_count f ≡ n
+  same_buses : file_bus_count f ≡ n
   unfolding file_of
-  same-buses = buses-written n m (needs t) r s
+  same_buses = buses_written n m (needs t) r s
 
   same-needs : need_bytes f ≡ needs t
   unfolding file_of
@@ -161,52 +161,52 @@ module _ (t : List ℕ) (w : Holds t) where
 
   third : records_end f < length f → SoundWeightSection f
   unfolding file_of
-  third = third-written n m (needs t) r (weights t) long full wide w.shape.complete.least
+  third = third_written n m (needs t) r (weights t) long full wide w.shape.complete.least
 
   sections : SoundSections f
   sections =
       record {
         first = record {
-          positive = omega (arith, same-buses, w.shape.complete.least);
-          buses = omega (arith, same-buses, w.shape.complete.most);
-          complete = omega (arith, same-buses, length-fileOf t w);
-          needs = rw same-needs (range-test max_need (needs t) (holds-needs t w));
+          positive = omega (arith, same_buses, w.shape.complete.least);
+          buses = omega (arith, same_buses, w.shape.complete.most);
+          complete = omega (arith, same_buses, length-file_of t w);
+          needs = rw same-needs (range_test max_need (needs t) (holds-needs t w));
         };
         lines = omega (arith, same_lines, lines-le t w);
-        complete = omega (arith, same-buses, same_lines, length-fileOf t w);
+        complete = omega (arith, same_buses, same_lines, length-file_of t w);
         third = third;
-        weights = rw same-weights (range-test max_weight (weights t) (holds-weights t w));
+        weights = rw same-weights (range_test max_weight (weights t) (holds-weights t w));
       }
 
   -- the table that the file records is the network's
-  table-again : file_table f ≡ take (entries (starts_at t) t) t
+  table_again : file_table f ≡ take (entries (starts_at t) t) t
   unfolding file_table table_of
-  table-again =
-      rw (same-weights, same-records, same-needs, same_lines, same-buses) (ap (λ l. (n ∷ needs t ++ weights t) ++ l) (laid_same (neighbours n m r) (row t) n neighbours-row))
+  table_again =
+      rw (same-weights, same-records, same-needs, same_lines, same_buses) (ap (λ l. (n ∷ needs t ++ weights t) ++ l) (laid_same (neighbours n m r) (row t) n neighbours-row))
       ∙ made_again t w.shape
 
   accepted : (x : List ℕ) → table_entries n m ≤ length x → read_outcome f (length x) ≡ gives (network_counts f)
   accepted x room =
-      read-accepts f x sections
-      (rw (same-records, same_lines, same-buses) (ends-test n m r ends))
+      read_accepts f x sections
+      (rw (same-records, same_lines, same_buses) (ends_test n m r ends))
       (rw (same-records, same_lines) order)
-      (rw (same-records, same_lines, same-buses) degrees)
-      (rw (same-needs, same-records, same_lines, same-buses) met)
-      (rw (same-records, same_lines, same-buses, once) room)
+      (rw (same-records, same_lines, same_buses) degrees)
+      (rw (same-needs, same-records, same_lines, same_buses) met)
+      (rw (same-records, same_lines, same_buses, once) room)
 
   file-read : (x : List ℕ) → table_entries n m ≤ length x → ReadBack t (file_of t) x
   unfolding stored_table
   file-read x room =
-      let counts : network_counts f ≡ record { buses = n; lines = m } = rw (same-records, same_lines, same-buses, once) in
+      let counts : network_counts f ≡ record { buses = n; lines = m } = rw (same-records, same_lines, same_buses, once) in
       record {
         answer = accepted x room ∙ ap gives counts;
-        stored = table-stored f x (accepted x room) ∙ sym (put_front x (file_table f)) ∙ ap (put x 0) (table-again ∙ ap (λ k. take k t) (entries-all t w));
+        stored = table_stored f x (accepted x room) ∙ sym (put_front x (file_table f)) ∙ ap (put x 0) (table_again ∙ ap (λ k. take k t) (entries-all t w));
       }
 
 -- READ BACK: of every slice t, where the writer accepts it, whatever bytes y it is lent, Read of the bytes that it wrote gives n and m and
 -- stores the table, into every slice x with so many entries
 pub read_back : (t x y : List ℕ) {bytes : ℕ} → write_outcome t (length y) ≡ gives bytes → table_entries (bus_count t) (lines t) ≤ length x → ReadBack t (take bytes (bytes_after t y)) x
 read_back t x y e room =
-    let h = accepted-holds t (length y) e in
-    let front = written_front (file_of t) y (accepted-bytes t (length y) e ∙ sym (zero-add (length (file_of t))), (fitting t h y (accepted-fits t (length y) e)).1) in
-    subst (λ f. ReadBack t f x) (sym front) (file-read t (holds-facts t h) x room)
+    let h = accepted_holds t (length y) e in
+    let front = written_front (file_of t) y (accepted_bytes t (length y) e ∙ sym (zero-add (length (file_of t))), (fitting t h y (accepted_fits t (length y) e)).1) in
+    subst (λ f. ReadBack t f x) (sym front) (file-read t (holds_facts t h) x room)

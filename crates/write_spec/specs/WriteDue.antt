@@ -11,12 +11,12 @@ use Rattle.table_spec.specs.Limits.{max_bytes}
 use Rattle.table_spec.specs.Layout.{entries, starts_at, lines}
 use Rattle.table_spec.specs.Holds.{holds}
 use Rattle.table_spec.specs.TableOutcomes.{SameNetwork}
-use Rattle.table_spec.specs.Facts.{holds-facts}
+use Rattle.table_spec.specs.Facts.{holds_facts}
 use Rattle.table_spec.specs.LineCount.{lines-le}
 use Rattle.table_spec.specs.BeyondTable.{beyond}
 use Rattle.write_spec.specs.FileOf.{pair_records, file_of}
 use Rattle.write_spec.specs.WriteOutcome.{write_causes, write_outcome, bytes_after}
-use Rattle.write_spec.specs.PairLaws.{length-fileOf, weightSection-le}
+use Rattle.write_spec.specs.PairLaws.{length-file_of, weight_section-le}
 
 -- what is due of the writer is answered and written
 pub write_due : (t x : List ℕ) {o : Outcome ℕ} {y : List ℕ} → Due (write_causes t (length x)) (length (file_of t)) (put x 0 (file_of t)) x o y
@@ -28,14 +28,14 @@ module _ (t : List ℕ) (lent : ℕ) {bytes : ℕ} (e : write_outcome t lent ≡
   abbrev causes : List Cause
   causes = write_causes t lent
 
-  pub accepted-holds : holds t ≡ true
-  accepted-holds = not-false (holds t) (or-none _ _ (none-numbered 11 causes (no_cause causes (length (file_of t)) e).0)).0
+  pub accepted_holds : holds t ≡ true
+  accepted_holds = not-false (holds t) (or-none _ _ (none-numbered 11 causes (no_cause causes (length (file_of t)) e).0)).0
 
-  pub accepted-fits : length (file_of t) ≤ lent
-  accepted-fits = ltb-false lent (length (file_of t)) (or-none _ _ (none-numbered 16 causes (no_cause causes (length (file_of t)) e).0)).0
+  pub accepted_fits : length (file_of t) ≤ lent
+  accepted_fits = ltb-false lent (length (file_of t)) (or-none _ _ (none-numbered 16 causes (no_cause causes (length (file_of t)) e).0)).0
 
-  pub accepted-bytes : bytes ≡ length (file_of t)
-  accepted-bytes = (no_cause causes (length (file_of t)) e).1
+  pub accepted_bytes : bytes ≡ length (file_of t)
+  accepted_bytes = (no_cause causes (length (file_of t)) e).1
 
 module _ (t : List ℕ) (h : holds t ≡ true) where
   -- so a file that fits is written
@@ -43,12 +43,12 @@ module _ (t : List ℕ) (h : holds t ≡ true) where
   fitting x l = rw (h, le-ltb (length x) (length (file_of t)) l) (refl, refl)
 
   -- EVERY FILE FITS: none has more bytes than the largest that Read accepts
-  pub file-fits : length (file_of t) ≤ max_bytes
-  file-fits = let w = holds-facts t h in omega (arith, length-fileOf t w, weightSection-le t w, w.shape.complete.most, lines-le t w)
+  pub file_fits : length (file_of t) ≤ max_bytes
+  file_fits = let w = holds_facts t h in omega (arith, length-file_of t w, weight_section-le t w, w.shape.complete.most, lines-le t w)
 
   -- so a call that is lent so many bytes is not refused for want of them
-  pub never-short : (x : List ℕ) → max_bytes ≤ length x → write_outcome t (length x) ≡ gives (length (file_of t))
-  never-short x l = (fitting x (le_trans file-fits l)).0
+  pub never_short : (x : List ℕ) → max_bytes ≤ length x → write_outcome t (length x) ≡ gives (length (file_of t))
+  never_short x l = (fitting x (le_trans file_fits l)).0
 
 -- slices that are the same network have the same file
 pub same-file : {a b : List ℕ} → SameNetwork a b → file_of a ≡ file_of b

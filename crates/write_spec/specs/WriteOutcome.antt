@@ -3,7 +3,7 @@
 use Rattle.std.specs.Prelude.{List, [], ◌∷◌, ℕ, ltb, length}
 use Rattle.lists.specs.Lists.{put}
 use Rattle.refusals.specs.declared.Refusal.TheVariants.{BytesTooShort}
-use Rattle.refusals.specs.Outcomes.{Outcome, Cause, ◌⇒◌, outcome, valuesOr}
+use Rattle.refusals.specs.Outcomes.{Outcome, Cause, ◌⇒◌, outcome, values_or}
 use Rattle.table_spec.specs.Holds.{holds}
 use Rattle.table_spec.specs.TableOutcomes.{on_table}
 use Rattle.write_spec.specs.FileOf.{file_of}
@@ -18,4 +18,4 @@ write_outcome t lent = outcome (write_causes t lent) (length (file_of t))
 
 -- what bytes that held x hold afterwards: accepted, the file is written over their front; refused, what they held
 abbrev pub bytes_after : List ℕ → List ℕ → List ℕ
-bytes_after t x = valuesOr x (outcome (write_causes t (length x)) (put x 0 (file_of t)))
+bytes_after t x = values_or x (outcome (write_causes t (length x)) (put x 0 (file_of t)))

@@ -16,18 +16,18 @@ module _ (n m : ℕ) (q r rest : List ℕ) where
   abbrev pub file : List ℕ
   file = word n ++ (q ++ (word m ++ (r ++ rest)))
 
-  pub buses-written : file_bus_count file ≡ n
-  buses-written = word_front n (q ++ (word m ++ (r ++ rest)))
+  pub buses_written : file_bus_count file ≡ n
+  buses_written = word_front n (q ++ (word m ++ (r ++ rest)))
 
   module _ (buses : length q ≡ n) where
     pub needs-written : need_bytes file ≡ q
     unfolding need_bytes word
-    needs-written = part_between (word n) q (word m ++ (r ++ rest)) {a = 2} {e = needs_end file} refl (omega (arith, buses-written, buses))
+    needs-written = part_between (word n) q (word m ++ (r ++ rest)) {a = 2} {e = needs_end file} refl (omega (arith, buses_written, buses))
 
     pub lines-written : file_line_count file ≡ m
     unfolding word
     lines-written =
-        word-behind (word n) (q ++ (word m ++ (r ++ rest))) n (omega (arith, buses-written))
+        word-behind (word n) (q ++ (word m ++ (r ++ rest))) n (omega (arith, buses_written))
         ∙ word-behind q (word m ++ (r ++ rest)) 0 (omega (arith, buses))
         ∙ word_front m (r ++ rest)
 
@@ -36,30 +36,30 @@ module _ (n m : ℕ) (q r rest : List ℕ) where
       abbrev pub front : List ℕ
       front = word n ++ (q ++ word m)
 
-      pub length-sections : length file ≡ 2 + n + 2 + 4 * m + length rest
+      pub length_sections : length file ≡ 2 + n + 2 + 4 * m + length rest
       unfolding word
-      length-sections = omega (arith, buses, lines, length-append q (word m ++ (r ++ rest)), length-append r rest)
+      length_sections = omega (arith, buses, lines, length-append q (word m ++ (r ++ rest)), length-append r rest)
 
-      in-front : file ≡ front ++ (r ++ rest)
+      in_front : file ≡ front ++ (r ++ rest)
       unfolding word
-      in-front = ap (λ l. word n ++ l) (sym (append_assoc q (word m) (r ++ rest)))
+      in_front = ap (λ l. word n ++ l) (sym (append_assoc q (word m) (r ++ rest)))
 
       length_front : length front ≡ records_at file
       unfolding word
-      length_front = omega (arith, buses-written, buses, length-append q (word m))
+      length_front = omega (arith, buses_written, buses, length-append q (word m))
 
       pub records-written : records file ≡ r
       unfolding records
       records-written =
-          ap (part (records_at file) (records_end file)) in-front
+          ap (part (records_at file) (records_end file)) in_front
           ∙ part_between front r rest {a = records_at file} {e = records_end file} (sym length_front) (omega (arith, lines-written, lines))
 
       -- what follows the records stands where they end
-      pub to-rest : file ≡ (front ++ r) ++ rest
-      to-rest = in-front ∙ sym (append_assoc front r rest)
+      pub to_rest : file ≡ (front ++ r) ++ rest
+      to_rest = in_front ∙ sym (append_assoc front r rest)
 
-      pub length-to-rest : length (front ++ r) ≡ records_end file
-      length-to-rest = omega (arith, length-append front r, length_front, lines-written, lines)
+      pub length_to_rest : length (front ++ r) ≡ records_end file
+      length_to_rest = omega (arith, length-append front r, length_front, lines-written, lines)
 
 -- so a file of bytes is its sections, and what follows them
 pub sections_again : (f : List ℕ) → SoundSections f → AreBytes f → file (file_bus_count f) (file_line_count f) (need_bytes f) (records f) (drop (records_end f) f) ≡ f

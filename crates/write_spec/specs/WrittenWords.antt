@@ -91,9 +91,9 @@ module _ (l : List ℕ) where
   words-written h = words_below-written (at l) (length l) h refl
 
   -- a list of what bytes have, two for each number, is these bytes
-  pub words-again : (b : List ℕ) → length b ≡ 2 * length l → AreBytes b → ((i : ℕ) → i < length l → at l i ≡ word_at b (2 * i)) → words l ≡ b
+  pub words_again : (b : List ℕ) → length b ≡ 2 * length l → AreBytes b → ((i : ℕ) → i < length l → at l i ≡ word_at b (2 * i)) → words l ≡ b
   unfolding words
-  words-again b e bytes h = join_below-same _ _ (length l) (λ i k. ap word (h i k)) ∙ words_below_again (length l) b e bytes
+  words_again b e bytes h = join_below-same _ _ (length l) (λ i k. ap word (h i k)) ∙ words_below_again (length l) b e bytes
 
 -- ---- the records of m pairs, whose buses are a 0 and b 0, a 1 and b 1, .. up to a (m - 1) and b (m - 1)
 
@@ -112,26 +112,26 @@ module _ (a b : ℕ → ℕ) where
   mixed : ℕ → ℕ
   mixed i = cond (eqb (i % 2) 0) (a (i / 2)) (b (i / 2))
 
-  mixed-even : (k : ℕ) → mixed (2 * k) ≡ a k
+  mixed_even : (k : ℕ) → mixed (2 * k) ≡ a k
   unfolding mixed
-  mixed-even k = let q : 2 * k / 2 ≡ k = omega arith in rw (eq-eqb (2 * k % 2) 0 (omega arith)) (ap a q)
+  mixed_even k = let q : 2 * k / 2 ≡ k = omega arith in rw (eq-eqb (2 * k % 2) 0 (omega arith)) (ap a q)
 
-  mixed-odd : (k : ℕ) → mixed (2 * k + 1) ≡ b k
+  mixed_odd : (k : ℕ) → mixed (2 * k + 1) ≡ b k
   unfolding mixed
-  mixed-odd k = let q : (2 * k + 1) / 2 ≡ k = omega arith in rw (ne_eqb ((2 * k + 1) % 2) 0 (omega arith)) (ap b q)
+  mixed_odd k = let q : (2 * k + 1) / 2 ≡ k = omega arith in rw (ne_eqb ((2 * k + 1) % 2) 0 (omega arith)) (ap b q)
 
   listed-words : (m : ℕ) → listed a b m ≡ words_below (m * 2) mixed
-  listed-words m = join_below-same _ _ m (λ k h. ap₂ record_of (sym (mixed-even k)) (sym (mixed-odd k))) ∙ words_below_paired m mixed
+  listed-words m = join_below-same _ _ m (λ k h. ap₂ record_of (sym (mixed_even k)) (sym (mixed_odd k))) ∙ words_below_paired m mixed
 
   pub length-listed : (m : ℕ) → length (listed a b m) ≡ 4 * m
   length-listed m = ap length (listed-words m) ∙ length-words_below (m * 2) mixed ∙ omega arith
 
   module _ (m : ℕ) {k : ℕ} (h : k < m) where
     pub first-written : first_end (listed a b m) k ≡ a k
-    first-written = ap (λ l. word_at l (4 * k)) (listed-words m) ∙ words_below-written mixed (m * 2) {i = 2 * k} (omega arith) (omega arith) ∙ mixed-even k
+    first-written = ap (λ l. word_at l (4 * k)) (listed-words m) ∙ words_below-written mixed (m * 2) {i = 2 * k} (omega arith) (omega arith) ∙ mixed_even k
 
-    pub second-written : second_end (listed a b m) k ≡ b k
-    second-written = ap (λ l. word_at l (4 * k + 2)) (listed-words m) ∙ words_below-written mixed (m * 2) {i = 2 * k + 1} (omega arith) (omega arith) ∙ mixed-odd k
+    pub second_written : second_end (listed a b m) k ≡ b k
+    second_written = ap (λ l. word_at l (4 * k + 2)) (listed-words m) ∙ words_below-written mixed (m * 2) {i = 2 * k + 1} (omega arith) (omega arith) ∙ mixed_odd k
 
 -- bytes, four for each of m records, are the records of the pairs that they name
 pub records-listed : (m : ℕ) (r : List ℕ) → length r ≡ 4 * m → AreBytes r → listed (first_end r) (second_end r) m ≡ r

@@ -13,9 +13,9 @@ use Rattle.lists.specs.ListBelow.{join_below_members}
 use Rattle.lists.specs.Writes.{written-append}
 use Rattle.table_spec.specs.Layout.{bus_count, needs, weights, row, lines}
 use Rattle.table_spec.specs.Holds.{ValidRow, Holds}
-use Rattle.table_spec.specs.Rows.{valid-below, length-needs, row-valid}
+use Rattle.table_spec.specs.Rows.{valid_below, length-needs, row_valid}
 use Rattle.write_spec.specs.FileOf.{word, record_of, pair_records, weight_section, file_of}
-use Rattle.write_spec.specs.PairLaws.{length-pairRecords}
+use Rattle.write_spec.specs.PairLaws.{length-pair_records}
 use Rattle.writer.specs.FileFront.{front_of}
 use Rattle.writer.specs.RowRecords.{record_above, row_records}
 
@@ -31,18 +31,18 @@ unfolding pair_records row_records
 pairs_by_row n rows valid =
     join_below-same _ _ n
     (λ i b. join_below-same _ _ n (λ j _. above_first i j (has j (rows i)))
-    ∙ join_below_members (rows i) n (record_above i) (valid i b).ascends (valid-below (valid i b)))
+    ∙ join_below_members (rows i) n (record_above i) (valid i b).ascends (valid_below (valid i b)))
 
 -- so are those of a network, whose bus count was read into n
 pub records_by_row : (t : List ℕ) {n : ℕ} → Holds t → n ≡ bus_count t → pair_records (bus_count t) (row t) ≡ join_below n (λ i. row_records i (row t i))
 records_by_row t w e =
-    pairs_by_row (bus_count t) (row t) (row-valid w.shape) ∙ ap (λ n. join_below n (λ i. row_records i (row t i))) (sym e)
+    pairs_by_row (bus_count t) (row t) (row_valid w.shape) ∙ ap (λ n. join_below n (λ i. row_records i (row t i))) (sym e)
 
 -- so many bytes stand before the weights
 pub length-front_of : (t : List ℕ) → Holds t → length (front_of t) ≡ 2 + bus_count t + 2 + 4 * lines t
 unfolding front_of word
 length-front_of t w =
-    omega (arith, length-append (needs t) (word (lines t) ++ pair_records (bus_count t) (row t)), length-needs t w.shape.complete, length-pairRecords t w)
+    omega (arith, length-append (needs t) (word (lines t) ++ pair_records (bus_count t) (row t)), length-needs t w.shape.complete, length-pair_records t w)
 
 -- the sections of the file up to there were written one behind another at the front of x; code has the bus count as n, the needs as q, the number of
 -- lines as m

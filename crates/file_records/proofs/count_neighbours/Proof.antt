@@ -12,7 +12,7 @@ use Rattle.lists.specs.Loops.{by_end}
 use Rattle.file_spec.specs.Records.{repeats, pair_count}
 use Rattle.file_spec.specs.RecordPairs.{pair_count-le, pair_count-next}
 use Rattle.file_records.specs.RecordSteps.{NeighbourCounts}
-use Rattle.file_records.proofs.RecordLaws.{repeats-last, first-bus, second-bus, neighbour-count-le, second-count-le, counts-none, counts_again, counts-next}
+use Rattle.file_records.proofs.RecordLaws.{repeats-last, first_bus, second_bus, neighbour-count-le, second_count-le, counts-none, counts_again, counts-next}
 use Rattle.file_records.proofs.count_neighbours.Statement.{statement}
 use Rattle.file_records.proofs.count_neighbours.Tie as tie
 
@@ -44,7 +44,7 @@ increment-requires c κs =
     let e = c.before in
     let d = e.before in
     let g = (start d).requires.1 in
-    let b = first-bus g (in-loop d).loop-test.true e.ends_of.ensures in
+    let b = first_bus g (in-loop d).loop-test.true e.ends_of.ensures in
     (omega (arith, b, g.buses), omega (arith, neighbour-count-le (at-loop d).loop.invariant.2 b, g.buses))
 
 increment-requires-2 : tie.Need-increment-requires-2 invariant-loop decreases-loop
@@ -52,8 +52,8 @@ increment-requires-2 c κs =
     let e = c.before.before.before in
     let d = e.before in
     let g = (start d).requires.1 in
-    let b = second-bus g (in-loop d).loop-test.true e.ends_of.ensures in
-    (omega (arith, b, g.buses), omega (arith, second-count-le g (in-loop d).loop-test.true e.ends_of.ensures (new d) (at-loop d).loop.invariant.2 c.before.increment.ensures, g.buses))
+    let b = second_bus g (in-loop d).loop-test.true e.ends_of.ensures in
+    (omega (arith, b, g.buses), omega (arith, second_count-le g (in-loop d).loop-test.true e.ends_of.ensures (new d) (at-loop d).loop.invariant.2 c.before.increment.ensures, g.buses))
 
 add-pairs : tie.Need-overflow-add-pairs invariant-loop decreases-loop
 add-pairs c =

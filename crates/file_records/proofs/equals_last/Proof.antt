@@ -19,9 +19,9 @@ none_before r {k} z = rw (le-ltb 0 k (omega arith))
 
 -- a and b were read of record k, x and y of the one before
 module _ (r : List ℕ) (k : ℕ) {a b x y : ℕ} (e : (a ≡ first_end r k) × (b ≡ second_end r k)) (f : (x ≡ first_end r (k - 1)) × (y ≡ second_end r (k - 1))) where
-  other-first : (a ≡ x → ⊥) → false ≡ equals_last r k
+  other_first : (a ≡ x → ⊥) → false ≡ equals_last r k
   unfolding equals_last
-  other-first d = rw (ne_eqb (first_end r k) (first_end r (k - 1)) (λ q. d (e.0 ∙ q ∙ sym f.0)), and-false (ltb 0 k))
+  other_first d = rw (ne_eqb (first_end r k) (first_end r (k - 1)) (λ q. d (e.0 ∙ q ∙ sym f.0)), and-false (ltb 0 k))
 
   same_first : 0 < k → a ≡ x → eqb b y ≡ equals_last r k
   unfolding equals_last
@@ -31,7 +31,7 @@ returns : tie.Need-returns
 returns c = none_before _ c.if1.true
 
 returns_2 : tie.Need-returns-2
-returns_2 c = let p = c.before.before.before in other-first _ _ p.before.ends_of.ensures p.ends-of2.ensures (search rules)
+returns_2 c = let p = c.before.before.before in other_first _ _ p.before.ends_of.ensures p.ends-of2.ensures (search rules)
 
 returns-3 : tie.Need-returns-3
 returns-3 c = let p = c.before.before.before.before.before in same_first _ _ p.before.ends_of.ensures p.ends-of2.ensures (search rules) (search rules)

@@ -10,10 +10,10 @@ use Rattle.lists.specs.Tests.{failed, passed}
 use Rattle.lists.specs.Loops.{by_end}
 use Rattle.table_spec.specs.Limits.{max_buses}
 use Rattle.row_builder.specs.GrowingRows.{GrowingRows}
-use Rattle.row_builder.specs.GrowingLaws.{growing-same, growing-done}
+use Rattle.row_builder.specs.GrowingLaws.{growing_same, growing_done}
 use Rattle.file_spec.specs.Records.{neighbours, repeats}
 use Rattle.file_spec.specs.RecordPairs.{neighbours-none, neighbours_again}
-use Rattle.file_records.proofs.RecordLaws.{repeats-last, first-bus, second-bus, first_fits, first-grown, second_fits, second-grown}
+use Rattle.file_records.proofs.RecordLaws.{repeats-last, first_bus, second_bus, first_fits, first-grown, second_fits, second_grown}
 use Rattle.file_records.proofs.fill_rows.Statement.{statement}
 use Rattle.file_records.proofs.fill_rows.Tie as tie
 
@@ -24,7 +24,7 @@ abbrev decreases-loop : tie.decreases-loop
 decreases-loop r n m next₀ rows₀ k₀ next rows k = m - k
 
 loop-holds : tie.Need-loop-init invariant-loop decreases-loop
-loop-holds c = (search rules, growing-same c.before.before.requires.1 _ (λ i b. sym (neighbours-none _ _ i)))
+loop-holds c = (search rules, growing_same c.before.before.requires.1 _ (λ i b. sym (neighbours-none _ _ i)))
 
 -- a record that names a new pair
 abbrev in-loop : tie.Then1 invariant-loop decreases-loop → tie.In-loop invariant-loop decreases-loop
@@ -44,7 +44,7 @@ low e =
     let d = e.before in
     let g = (start d).requires.0.1 in
     let b = (in-loop d).loop-test.true in
-    (omega (arith, first-bus g b e.ends_of.ensures, g.buses), omega (arith, second-bus g b e.ends_of.ensures, g.buses))
+    (omega (arith, first_bus g b e.ends_of.ensures, g.buses), omega (arith, second_bus g b e.ends_of.ensures, g.buses))
 
 cast-append : tie.Need-overflow-cast-append invariant-loop decreases-loop
 cast-append c = omega (arith, low c.before.before.before)
@@ -81,9 +81,9 @@ loop-again c =
     (λ w. let z = sym again ∙ failed c.before.equals-last.ensures w.0.taken in
     let e = w.1.ensures in
     let one = first-grown g b e z v.invariant.1 w.5.ensures.0 w.5.ensures.1 in
-    (omega arith, rw (w.14, w.15) (second-grown g b e z one w.11.ensures.0 w.11.ensures.1)))
+    (omega arith, rw (w.14, w.15) (second_grown g b e z one w.11.ensures.0 w.11.ensures.1)))
     (λ w. let y = sym again ∙ passed c.before.equals-last.ensures w.0.left in
-    (omega arith, rw (w.1, w.2) (growing-same v.invariant.1 _ (λ i _. sym (neighbours_again _ _ _ y i)))))
+    (omega arith, rw (w.1, w.2) (growing_same v.invariant.1 _ (λ i _. sym (neighbours_again _ _ _ y i)))))
     c.if1.branch
 
 same_length : tie.Need-same-length invariant-loop decreases-loop
@@ -94,7 +94,7 @@ returns c =
     let s = c.before.before.before.before.args in
     let v = c.before.loop in
     let w = by_end (λ k. GrowingRows s.n (λ i. length (neighbours s.n s.m s.section.now i)) (neighbours s.n k s.section.now) v.next v.rows) v.invariant.1 v.invariant.0 c.loop-test.false in
-    growing-done w (λ i b. refl)
+    growing_done w (λ i b. refl)
 
 pub fill-rows-spec : {M : Type 1} → statement M
 fill-rows-spec =

@@ -9,7 +9,7 @@ use Rattle.lists.specs.Below.{join_below}
 use Rattle.lists.specs.Places.{length_part}
 use Rattle.lists.specs.Writes.{put_whole}
 use Rattle.file_spec.specs.Records.{neighbours}
-use Rattle.file_records.proofs.StoringRows.{laid-counted, numbers-counted, numbers-le, growing-start, laid-stored}
+use Rattle.file_records.proofs.StoringRows.{laid-counted, numbers-counted, numbers-le, growing_start, laid-stored}
 use Rattle.file_records.proofs.store_rows.Statement.{statement}
 use Rattle.file_records.proofs.store_rows.Tie as tie
 
@@ -41,7 +41,7 @@ fill-rows-requires c κs =
     let z = end_le p in
     let first = a.from + a.n + 1 in (
       (h.0, h.1),
-      growing-start h.2 p.store-starts.ensures.1.1
+      growing_start h.2 p.store-starts.ensures.1.1
           (length_part first (first + p.store-starts.result) p.store-starts.new.1.1.0 (omega (arith, p.store-starts.auto.1.1.0)) ∙ omega (arith, p.store-starts.ensures.1.0)),
     )
 

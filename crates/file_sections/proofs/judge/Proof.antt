@@ -4,10 +4,10 @@ use native.Mathlib.Omega.{arith}
 use mathlib.Core.Path.{◌≡◌, sym, ap, ◌∙◌}
 use Rattle.refusals.specs.Outcomes.{gives, outcome}
 use Rattle.refusals.specs.Causes.{no_cause}
-use Rattle.refusals.specs.Due.{answer, due, stage-stop, stage-pass}
+use Rattle.refusals.specs.Due.{answer, due, stage_stop, stage_pass}
 use Rattle.file_spec.specs.FileBytes.{file_bus_count}
 use Rattle.file_spec.specs.Sections.{bus_section_causes, line_section_causes, section_causes, counts}
-use Rattle.file_spec.specs.SoundSections.{buses-passed}
+use Rattle.file_spec.specs.SoundSections.{buses_passed}
 use Rattle.file_sections.specs.FileAnswers.{outcome_of_count}
 use Rattle.file_sections.proofs.judge.Statement.{statement}
 use Rattle.file_sections.proofs.judge.Tie as tie
@@ -20,17 +20,17 @@ judge-lines-requires : tie.Need-judge-lines-requires
 judge-lines-requires c κs =
     let f = c.before.before.before.before.before.args.file.now in
     let z = no_cause (bus_section_causes f) (file_bus_count f) (sym (counted c.before)) in
-    (z.1, omega (arith, (buses-passed f z.0).buses, z.1))
+    (z.1, omega (arith, (buses_passed f z.0).buses, z.1))
 
 returns : tie.Need-returns
 returns c =
     answer (section_causes _) (counts _)
-    (stage-stop (bus_section_causes _) (file_bus_count _) (line_section_causes _) (sym (ap outcome_of_count c.before.cause.given.1) ∙ c.before.before.before.bus-section.ensures))
+    (stage_stop (bus_section_causes _) (file_bus_count _) (line_section_causes _) (sym (ap outcome_of_count c.before.cause.given.1) ∙ c.before.before.before.bus-section.ensures))
 
 returns_2 : tie.Need-returns-2
 returns_2 c =
     answer (section_causes _) (counts _)
-    (stage-pass (bus_section_causes _) (file_bus_count _) (counted c.before.before) (due (line_section_causes _) (counts _) c.judge-lines.ensures))
+    (stage_pass (bus_section_causes _) (file_bus_count _) (counted c.before.before) (due (line_section_causes _) (counts _) c.judge-lines.ensures))
 
 pub judge-spec : {M : Type 1} → statement M
 judge-spec =

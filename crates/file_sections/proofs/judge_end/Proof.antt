@@ -4,7 +4,7 @@ use mathlib.Core.List.{◌++◌}
 use mathlib.Core.Path.{◌≡◌, sym, ap, ◌∙◌}
 use Rattle.refusals.specs.Outcomes.{gives, outcome}
 use Rattle.refusals.specs.Causes.{no_cause}
-use Rattle.refusals.specs.Due.{answer, due, stage-stop, stage-pass}
+use Rattle.refusals.specs.Due.{answer, due, stage_stop, stage_pass}
 use Rattle.file_spec.specs.FileBytes.{records_end}
 use Rattle.file_spec.specs.Sections.{missing_causes, end_causes, counts}
 use Rattle.file_sections.specs.FileAnswers.{outcome_of_count}
@@ -25,12 +25,12 @@ judge-weights-requires c κs =
 returns : tie.Need-returns
 returns c =
     answer (missing_causes _ ++ end_causes _) (counts _)
-    (stage-stop (missing_causes _) (records_end _) (end_causes _) (sym (ap outcome_of_count c.before.cause.given.1) ∙ c.before.before.before.records-end.ensures))
+    (stage_stop (missing_causes _) (records_end _) (end_causes _) (sym (ap outcome_of_count c.before.cause.given.1) ∙ c.before.before.before.records-end.ensures))
 
 returns_2 : tie.Need-returns-2
 returns_2 c =
     answer (missing_causes _ ++ end_causes _) (counts _)
-    (stage-pass (missing_causes _) (records_end _) (ended c.before.before) (due (end_causes _) (counts _) c.judge-weights.ensures))
+    (stage_pass (missing_causes _) (records_end _) (ended c.before.before) (due (end_causes _) (counts _) c.judge-weights.ensures))
 
 pub judge-end-spec : {M : Type 1} → statement M
 judge-end-spec =

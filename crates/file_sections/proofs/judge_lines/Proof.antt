@@ -5,10 +5,10 @@ use mathlib.Core.List.{◌++◌}
 use mathlib.Core.Path.{◌≡◌, sym, ap, ◌∙◌}
 use Rattle.refusals.specs.Outcomes.{gives, outcome}
 use Rattle.refusals.specs.Causes.{no_cause}
-use Rattle.refusals.specs.Due.{answer, due, stage-stop, stage-pass}
+use Rattle.refusals.specs.Due.{answer, due, stage_stop, stage_pass}
 use Rattle.file_spec.specs.FileBytes.{file_line_count}
 use Rattle.file_spec.specs.Sections.{line_count_causes, missing_causes, end_causes, line_section_causes, counts}
-use Rattle.file_spec.specs.SoundSections.{lines-passed}
+use Rattle.file_spec.specs.SoundSections.{lines_passed}
 use Rattle.file_sections.specs.FileAnswers.{outcome_of_count}
 use Rattle.file_sections.proofs.judge_lines.Statement.{statement}
 use Rattle.file_sections.proofs.judge_lines.Tie as tie
@@ -21,17 +21,17 @@ judge-end-requires : tie.Need-judge-end-requires
 judge-end-requires c κs =
     let s = c.before.before.before.before.before in
     let z = no_cause (line_count_causes s.args.file.now) (file_line_count s.args.file.now) (sym (counted c.before)) in
-    (s.requires.0, s.requires.1, z.1, omega (arith, lines-passed s.args.file.now z.0, z.1))
+    (s.requires.0, s.requires.1, z.1, omega (arith, lines_passed s.args.file.now z.0, z.1))
 
 returns : tie.Need-returns
 returns c =
     answer (line_section_causes _) (counts _)
-    (stage-stop (line_count_causes _) (file_line_count _) (missing_causes _ ++ end_causes _) (sym (ap outcome_of_count c.before.cause.given.1) ∙ c.before.before.before.line-count.ensures))
+    (stage_stop (line_count_causes _) (file_line_count _) (missing_causes _ ++ end_causes _) (sym (ap outcome_of_count c.before.cause.given.1) ∙ c.before.before.before.line-count.ensures))
 
 returns_2 : tie.Need-returns-2
 returns_2 c =
     answer (line_section_causes _) (counts _)
-    (stage-pass (line_count_causes _) (file_line_count _) (counted c.before.before) (due (missing_causes _ ++ end_causes _) (counts _) c.judge-end.ensures))
+    (stage_pass (line_count_causes _) (file_line_count _) (counted c.before.before) (due (missing_causes _ ++ end_causes _) (counts _) c.judge-end.ensures))
 
 pub judge-lines-spec : {M : Type 1} → statement M
 judge-lines-spec =

@@ -5,7 +5,7 @@ use mathlib.Core.List.{[]}
 use mathlib.Core.Path.{refl, sym, ap, ap₂, ◌∙◌}
 use Prim.Native.Nat.{ℕ}
 use Rattle.refusals.specs.Outcomes.{gives}
-use Rattle.refusals.specs.Due.{answer, accept, stage-stop, stage-pass}
+use Rattle.refusals.specs.Due.{answer, accept, stage_stop, stage_pass}
 use Rattle.file_spec.specs.FileBytes.{file_weight_count, records_end}
 use Rattle.file_spec.specs.Sections.{weight_section_causes, counts}
 use Rattle.file_sections.specs.FileAnswers.{outcome_of_count}
@@ -25,7 +25,7 @@ returns_2 c =
     let f = w.before.before.before.args.file.now in
     rw (longer f (records_end f) (omega arith))
     (answer (weight_section_causes f) (counts f)
-    (stage-stop (weight_section_causes f) (file_weight_count f) [] (sym (ap outcome_of_count c.before.cause.given.1) ∙ w.weight-section.ensures)))
+    (stage_stop (weight_section_causes f) (file_weight_count f) [] (sym (ap outcome_of_count c.before.cause.given.1) ∙ w.weight-section.ensures)))
 
 returns-3 : tie.Need-returns-3
 returns-3 c =
@@ -34,7 +34,7 @@ returns-3 c =
     let f = s.args.file.now in
     rw (longer f (records_end f) (omega arith))
     (answer (weight_section_causes f) (counts f)
-    (stage-pass (weight_section_causes f) (file_weight_count f) (sym (ap outcome_of_count c.enum_told.given.1) ∙ w.weight-section.ensures)
+    (stage_pass (weight_section_causes f) (file_weight_count f) (sym (ap outcome_of_count c.enum_told.given.1) ∙ w.weight-section.ensures)
     (accept (ap₂ (λ (n m : ℕ). record { buses = n; lines = m }) s.requires.0 s.requires.2) refl)))
 
 pub judge-weights-spec : {M : Type 1} → statement M

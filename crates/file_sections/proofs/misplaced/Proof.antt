@@ -24,9 +24,9 @@ module _ (r : List ℕ) (k : ℕ) {a b : ℕ} (e : (a ≡ first_end r k) × (b �
   not-turned = le-ltb (second_end r k) (first_end r k) (omega (arith, e.0, e.1))
 
   -- the first record has none before it
-  first-record : k ≡ 0 → false ≡ (turned r k || falls r k)
+  first_record : k ≡ 0 → false ≡ (turned r k || falls r k)
   unfolding falls
-  first-record z = rw (not-turned, le-ltb 0 k (omega arith))
+  first_record z = rw (not-turned, le-ltb 0 k (omega arith))
 
   -- x and y were read of the record before
   module _ {x y : ℕ} (f : (x ≡ first_end r (k - 1)) × (y ≡ second_end r (k - 1))) (p : 0 < k) where
@@ -40,16 +40,16 @@ module _ (r : List ℕ) (k : ℕ) {a b : ℕ} (e : (a ≡ first_end r k) × (b �
           eq-eqb (first_end r k) (first_end r (k - 1)) (sym e.0 ∙ q ∙ f.0),
         ) (ap₂ ltb e.1 f.1)
 
-    other-first : (a ≡ x → ⊥) → ltb a x ≡ (turned r k || falls r k)
+    other_first : (a ≡ x → ⊥) → ltb a x ≡ (turned r k || falls r k)
     unfolding falls pair_below
-    other-first d =
+    other_first d =
         rw (not-turned, lt-ltb 0 k p, ne_eqb (first_end r k) (first_end r (k - 1)) (λ q. d (e.0 ∙ q ∙ sym f.0)), or-false (ltb (first_end r k) (first_end r (k - 1)))) (ap₂ ltb e.0 f.0)
 
 returns : tie.Need-returns
 returns c = higher_first _ _ c.before.before.ends_of.ensures c.if1.true
 
 returns_2 : tie.Need-returns-2
-returns_2 c = first-record _ _ c.before.before.before.ends_of.ensures c.before.if1.false c.if2.true
+returns_2 c = first_record _ _ c.before.before.before.ends_of.ensures c.before.if1.false c.if2.true
 
 returns-3 : tie.Need-returns-3
 returns-3 c =
@@ -61,7 +61,7 @@ returns-4 : tie.Need-returns-4
 returns-4 c =
     let p = c.before.before.before.before.before in
     let q = p.before.before.before.before in
-    other-first _ _ q.ends_of.ensures (search rules) p.ends-of2.ensures (search rules) (search rules)
+    other_first _ _ q.ends_of.ensures (search rules) p.ends-of2.ensures (search rules) (search rules)
 
 pub misplaced-spec : {M : Type 1} → statement M
 misplaced-spec =

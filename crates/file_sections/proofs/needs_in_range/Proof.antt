@@ -8,7 +8,7 @@ use lib.ListN.{length}
 use Rattle.lists.specs.Lists.{at}
 use Rattle.lists.specs.Below.{all_below}
 use Rattle.lists.specs.Tests.{passed, failed}
-use Rattle.lists.specs.Loops.{all_below_start, allBelow-more, allBelow-fails, allBelow-done}
+use Rattle.lists.specs.Loops.{all_below_start, all_below_more, all_below_fails, all_below_done}
 use Rattle.table_spec.specs.Limits.{max_need}
 use Rattle.table_spec.specs.Holds.{within, in_range}
 use Rattle.file_sections.proofs.needs_in_range.Statement.{statement}
@@ -28,15 +28,15 @@ cast-within c = omega (arith, c.shared-slice-known2.given c.before.before.loop.b
 
 returns : tie.Need-returns invariant-loop decreases-loop
 unfolding in_range at
-returns c = sym (allBelow-fails _ _ _ c.before.before.before.loop-test.true (failed c.before.within.ensures c.if1.true))
+returns c = sym (all_below_fails _ _ _ c.before.before.before.loop-test.true (failed c.before.within.ensures c.if1.true))
 
 loop-again : tie.Need-loop-preserved invariant-loop decreases-loop
 unfolding at
-loop-again c = (search rules, allBelow-more _ _ c.before.before.before.before.loop.invariant.1 (passed c.before.within.ensures c.if1.false))
+loop-again c = (search rules, all_below_more _ _ c.before.before.before.before.loop.invariant.1 (passed c.before.within.ensures c.if1.false))
 
 returns_2 : tie.Need-returns-2 invariant-loop decreases-loop
 unfolding in_range
-returns_2 c = sym (allBelow-done _ _ _ c.before.loop.invariant.1 c.before.loop.invariant.0 c.loop-test.false)
+returns_2 c = sym (all_below_done _ _ _ c.before.loop.invariant.1 c.before.loop.invariant.0 c.loop-test.false)
 
 pub needs-in-range-spec : {M : Type 1} → statement M
 needs-in-range-spec =

@@ -3,7 +3,7 @@ use borrow.Author.Rules.{rules}
 use mathlib.Core.Bool.{false}
 use mathlib.Core.Path.{◌≡◌, sym, ◌∙◌}
 use Prim.Native.Nat.{◌-◌, ◌≤◌}
-use Rattle.lists.specs.Loops.{by_end, any_below_start, anyBelow-by, anyBelow-more}
+use Rattle.lists.specs.Loops.{by_end, any_below_start, any_below_by, any_below_more}
 use Rattle.file_spec.specs.RecordOrder.{out_of_order}
 use Rattle.file_sections.proofs.out_of_order.Statement.{statement}
 use Rattle.file_sections.proofs.out_of_order.Tie as tie
@@ -20,13 +20,13 @@ loop-holds c = (search rules, any_below_start _)
 
 returns : tie.Need-returns invariant-loop decreases-loop
 unfolding out_of_order
-returns c = sym (anyBelow-by _ _ _ c.before.before.loop-test.true (sym c.before.misplaced.ensures ∙ c.if1.true))
+returns c = sym (any_below_by _ _ _ c.before.before.loop-test.true (sym c.before.misplaced.ensures ∙ c.if1.true))
 
 loop-again : tie.Need-loop-preserved invariant-loop decreases-loop
 unfolding out_of_order
 loop-again c = (
   search rules,
-  anyBelow-more _ _ c.before.before.before.loop.invariant.1 (sym c.before.misplaced.ensures ∙ c.if1.false),
+  any_below_more _ _ c.before.before.before.loop.invariant.1 (sym c.before.misplaced.ensures ∙ c.if1.false),
 )
 
 returns_2 : tie.Need-returns-2 invariant-loop decreases-loop

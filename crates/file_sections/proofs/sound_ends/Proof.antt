@@ -6,7 +6,7 @@ use Prim.Native.Nat.{◌-◌, ◌≤◌}
 use Rattle.lists.specs.Tests.{fails, passed, failed, never_both}
 use borrow.Author.Count.{below_more}
 use native.Mathlib.Nat.{not-suc-le-zero}
-use Rattle.file_spec.specs.SoundSections.{SoundEnds, two_facts, two-test, ends-facts, ends-test}
+use Rattle.file_spec.specs.SoundSections.{SoundEnds, two_facts, two_test, ends_facts, ends_test}
 use Rattle.file_sections.proofs.sound_ends.Statement.{statement}
 use Rattle.file_sections.proofs.sound_ends.Tie as tie
 
@@ -22,7 +22,7 @@ loop-holds c = (search rules, λ j b. absurd (not-suc-le-zero b))
 returns : tie.Need-returns invariant-loop decreases-loop
 returns c =
     let e = c.before.before.ends_of.ensures in
-    sym (fails _ (λ w. never_both (two-test _ _ _ (ends-facts _ _ _ w _ c.before.before.before.loop-test.true)) (rw (e.0, e.1) at (failed c.before.two-buses.ensures c.if1.true))))
+    sym (fails _ (λ w. never_both (two_test _ _ _ (ends_facts _ _ _ w _ c.before.before.before.loop-test.true)) (rw (e.0, e.1) at (failed c.before.two-buses.ensures c.if1.true))))
 
 loop-again : tie.Need-loop-preserved invariant-loop decreases-loop
 loop-again c =
@@ -30,7 +30,7 @@ loop-again c =
     (search rules, below_more _ _ c.before.before.before.before.loop.invariant.1 (two_facts _ _ _ (rw (e.0, e.1) at (passed c.before.two-buses.ensures c.if1.false))))
 
 returns_2 : tie.Need-returns-2 invariant-loop decreases-loop
-returns_2 c = sym (ends-test _ _ _ (λ k b. c.before.loop.invariant.1 k (omega arith)))
+returns_2 c = sym (ends_test _ _ _ (λ k b. c.before.loop.invariant.1 k (omega arith)))
 
 pub sound-ends-spec : {M : Type 1} → statement M
 sound-ends-spec =

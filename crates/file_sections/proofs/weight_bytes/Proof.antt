@@ -6,7 +6,7 @@ use Prim.Native.Nat.{◌+◌, ◌-◌, ◌*◌}
 use lib.ListN.{take, drop}
 use Rattle.lists.specs.Lists.{part}
 use Rattle.file_spec.specs.FileBytes.{weight_bytes}
-use Rattle.file_spec.specs.WeightBytes.{weightBytes-none}
+use Rattle.file_spec.specs.WeightBytes.{weight_bytes-none}
 use Rattle.file_sections.proofs.weight_bytes.Statement.{statement}
 use Rattle.file_sections.proofs.weight_bytes.Tie as tie
 
@@ -16,7 +16,7 @@ returns c =
     let s = v.before in
     let e = 2 + s.args.n + 2 + 4 * s.args.m in
     let none : e - e ≡ 0 = omega arith in
-    ap (λ k. take k (drop e s.args.file.now)) none ∙ sym (weightBytes-none s.args.file.now (omega (arith, s.requires.0, s.requires.1, v.if1.true)))
+    ap (λ k. take k (drop e s.args.file.now)) none ∙ sym (weight_bytes-none s.args.file.now (omega (arith, s.requires.0, s.requires.1, v.if1.true)))
 
 part-result-end-2 : tie.Need-slice-bounds-result-end-2
 part-result-end-2 c =

@@ -6,7 +6,7 @@ use mathlib.Core.Path.{◌≡◌, sym, ap, ◌∙◌}
 use Prim.Native.Nat.{◌-◌, ◌≤◌}
 use Rattle.lists.specs.Below.{all_below}
 use Rattle.lists.specs.Tests.{passed, failed}
-use Rattle.lists.specs.Loops.{all_below_start, allBelow-more, allBelow-fails, allBelow-done}
+use Rattle.lists.specs.Loops.{all_below_start, all_below_more, all_below_fails, all_below_done}
 use Rattle.table_spec.specs.Limits.{max_weight}
 use Rattle.table_spec.specs.Holds.{within}
 use Rattle.file_spec.specs.FileBytes.{weight_in}
@@ -33,13 +33,13 @@ judged c = c.within.ensures ∙ ap (within 1 max_weight) c.before.weight-in.ensu
 
 returns : tie.Need-returns invariant-loop decreases-loop
 returns c =
-    sym (weights-range _ _ ∙ allBelow-fails _ _ _ c.before.before.before.loop-test.true (failed (judged c.before) c.if1.true))
+    sym (weights-range _ _ ∙ all_below_fails _ _ _ c.before.before.before.loop-test.true (failed (judged c.before) c.if1.true))
 
 loop-again : tie.Need-loop-preserved invariant-loop decreases-loop
-loop-again c = (search rules, allBelow-more _ _ c.before.before.before.before.loop.invariant.1 (passed (judged c.before) c.if1.false))
+loop-again c = (search rules, all_below_more _ _ c.before.before.before.before.loop.invariant.1 (passed (judged c.before) c.if1.false))
 
 returns_2 : tie.Need-returns-2 invariant-loop decreases-loop
-returns_2 c = sym (weights-range _ _ ∙ allBelow-done _ _ _ c.before.loop.invariant.1 c.before.loop.invariant.0 c.loop-test.false)
+returns_2 c = sym (weights-range _ _ ∙ all_below_done _ _ _ c.before.loop.invariant.1 c.before.loop.invariant.0 c.loop-test.false)
 
 pub weights-in-range-spec : {M : Type 1} → statement M
 weights-in-range-spec =

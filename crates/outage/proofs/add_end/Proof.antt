@@ -10,8 +10,8 @@ use Rattle.lists.specs.Lists.{without}
 use Rattle.lists.specs.Without.{length-without-le}
 use Rattle.lists.specs.Writes.{written_front}
 use Rattle.table_spec.specs.Limits.{max_degree, max_weight}
-use Rattle.share_terms.specs.RowTerms.{added_by, row-short, terms-asked}
-use Rattle.outage.proofs.EndRows.{end-room, left_is, left-room, left-asked}
+use Rattle.share_terms.specs.RowTerms.{added_by, row_short, terms_asked}
+use Rattle.outage.proofs.EndRows.{end_room, left_is, left_room, left_asked}
 use Rattle.outage.proofs.add_end.Statement.{statement}
 use Rattle.outage.proofs.add_end.Tie as tie
 
@@ -24,7 +24,7 @@ module _ (c : tie.After-need) where
   start = listed.before.before.before.before
 
   short : length listed.neighbours.result.now ≤ max_degree
-  short = row-short start.pre.0.0.shape start.pre.0.1 listed.neighbours.ensures
+  short = row_short start.pre.0.0.shape start.pre.0.1 listed.neighbours.ensures
 
 unit-requires : tie.Need-unit-requires
 unit-requires c κs = short c
@@ -38,7 +38,7 @@ add-terms-requires c κs =
     let p = s.pre.1.1.0 in
     let er = (listed n).neighbours.ensures in
     let ek = n.need.ensures in
-    (terms-asked w.shape b er n.before.weight.ensures.1 ek s.pre.0.2 c.before.unit.ensures, end-room w b er (max_weight * s.args.over) s.args.before.now p.0 p.1)
+    (terms_asked w.shape b er n.before.weight.ensures.1 ek s.pre.0.2 c.before.unit.ensures, end_room w b er (max_weight * s.args.over) s.args.before.now p.0 p.1)
 
 leave-out-requires : tie.Need-leave-out-requires
 leave-out-requires c κs = short c.before.before.before.before.before.before
@@ -51,21 +51,21 @@ module _ (c : tie.After-leave-out) where
   left-row : take c.leave-out.result c.leave-out.new.1.1.0 ≡ without ((start needed).args.other ∷ []) (listed needed).neighbours.result.now
   left-row = written_front _ _ c.leave-out.ensures
 
-  many-le : c.leave-out.result ≤ max_degree
-  many-le =
+  many_le : c.leave-out.result ≤ max_degree
+  many_le =
       omega (arith, c.leave-out.ensures.0, length-without-le ((start needed).args.other ∷ []) (listed needed).neighbours.result.now, short needed)
 
-  left-long : c.leave-out.result ≡ length (take c.leave-out.result c.leave-out.new.1.1.0)
-  left-long = sym (length-take-le _ _ (omega (arith, many-le, c.leave-out.auto.1.1.0)))
+  left_long : c.leave-out.result ≡ length (take c.leave-out.result c.leave-out.new.1.1.0)
+  left_long = sym (length-take-le _ _ (omega (arith, many_le, c.leave-out.auto.1.1.0)))
 
 array-share-prefix-left : tie.Need-array-share-prefix-left
-array-share-prefix-left c = omega (arith, many-le c.before, c.before.leave-out.auto.1.1.0)
+array-share-prefix-left c = omega (arith, many_le c.before, c.before.leave-out.auto.1.1.0)
 
 slice-aggregate-add-terms : tie.Need-slice-aggregate-add-terms
-slice-aggregate-add-terms c = left-long c.before.before
+slice-aggregate-add-terms c = left_long c.before.before
 
 unit-requires-2 : tie.Need-unit-requires-2
-unit-requires-2 c κs = let m = c.before.before in omega (arith, many-le m, short (needed m))
+unit-requires-2 c κs = let m = c.before.before in omega (arith, many_le m, short (needed m))
 
 add-terms-requires-2 : tie.Need-add-terms-requires-2
 add-terms-requires-2 c κs =
@@ -77,8 +77,8 @@ add-terms-requires-2 c κs =
     let p = s.pre.1.1.1 in
     let er = (listed n).neighbours.ensures in
     let ek = n.need.ensures in (
-      left-asked w b er s.args.other (left-row m) n.before.weight.ensures.1 ek s.pre.1.0 (left-long m) c.before.unit2.ensures,
-      left-room w b er s.args.other (left-row m) (max_weight * s.args.over) s.args.after.now p.0 p.1,
+      left_asked w b er s.args.other (left-row m) n.before.weight.ensures.1 ek s.pre.1.0 (left_long m) c.before.unit2.ensures,
+      left_room w b er s.args.other (left-row m) (max_weight * s.args.over) s.args.after.now p.0 p.1,
     )
 
 returns : tie.Need-returns

@@ -1,8 +1,8 @@
 -- `outage::changes` meets its contract.
 use borrow.Author.Rules.{rules}
 use Rattle.lists.specs.Tests.{passed, failed}
-use Rattle.table_spec.specs.Facts.{holds-facts}
-use Rattle.table_spec.specs.TableCauses.{no-network}
+use Rattle.table_spec.specs.Facts.{holds_facts}
+use Rattle.table_spec.specs.TableCauses.{no_network}
 use Rattle.outage_spec.specs.StudyDue.{study_due, all-studied}
 use Rattle.outage.proofs.changes.Statement.{statement}
 use Rattle.outage.proofs.changes.Tie as tie
@@ -10,11 +10,11 @@ use Rattle.outage.proofs.changes.Tie as tie
 returns : tie.Need-returns
 returns c =
     let a = c.before.before.before.args in
-    let d = study_due a.table.now a.line a.changes.now (no-network (failed c.before.holds.ensures c.if1.true)) in
+    let d = study_due a.table.now a.line a.changes.now (no_network (failed c.before.holds.ensures c.if1.true)) in
     (d.0, (d.1, all-studied a.table.now a.line a.changes.now d.0 d.1))
 
 study-requires : tie.Need-study-requires
-study-requires c κs = let e = c.before in holds-facts _ (passed e.before.holds.ensures e.if1.false)
+study-requires c κs = let e = c.before in holds_facts _ (passed e.before.holds.ensures e.if1.false)
 
 returns_2 : tie.Need-returns-2
 returns_2 c =

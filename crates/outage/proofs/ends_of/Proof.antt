@@ -4,8 +4,8 @@ use native.Mathlib.Omega.{arith}
 use mathlib.Core.Path.{◌≡◌}
 use Prim.Native.Nat.{◌+◌, ◌-◌, ◌<◌}
 use Rattle.table_spec.specs.Layout.{bus_count}
-use Rattle.table_spec.specs.Rows.{row-valid}
-use Rattle.outage.proofs.Counting.{lines_before, counted_none, lower-found, upper-found, counted_next, bus-left}
+use Rattle.table_spec.specs.Rows.{row_valid}
+use Rattle.outage.proofs.Counting.{lines_before, counted_none, lower_found, upper_found, counted_next, bus_left}
 use Rattle.outage.proofs.ends_of.Statement.{statement}
 use Rattle.outage.proofs.ends_of.Tie as tie
 
@@ -24,7 +24,7 @@ neighbours-requires c κs = (c.before.before.requires.0.shape, c.loop.invariant.
 first-above-requires : tie.Need-first-above-requires invariant-loop decreases-loop
 first-above-requires c κs =
     let v = c.before in
-    rw c.neighbours.ensures (row-valid v.before.before.requires.0.shape v.loop.bus v.loop.invariant.0).ascends
+    rw c.neighbours.ensures (row_valid v.before.before.requires.0.shape v.loop.bus v.loop.invariant.0).ascends
 
 sub_above : tie.Need-overflow-sub-above invariant-loop decreases-loop
 sub_above c = c.first_above.ensures.inside
@@ -41,8 +41,8 @@ returns c =
     let r = f.before in
     let v = r.before in
     let w = v.before.before.requires.0 in (
-      lower-found w v.loop.invariant.0 r.neighbours.ensures f.first_above.ensures v.loop.invariant.1 c.before.if1.true,
-      upper-found w v.loop.invariant.0 r.neighbours.ensures f.first_above.ensures v.loop.invariant.1 c.before.if1.true c.entry.ensures.0,
+      lower_found w v.loop.invariant.0 r.neighbours.ensures f.first_above.ensures v.loop.invariant.1 c.before.if1.true,
+      upper_found w v.loop.invariant.0 r.neighbours.ensures f.first_above.ensures v.loop.invariant.1 c.before.if1.true c.entry.ensures.0,
     )
 
 add-bus : tie.Need-overflow-add-bus invariant-loop decreases-loop
@@ -58,7 +58,7 @@ loop-again c =
     let v = r.before in
     let s = v.before.before in
     let w = s.requires.0 in (
-      bus-left w v.loop.invariant.0 r.neighbours.ensures f.first_above.ensures v.loop.invariant.1 c.if1.false s.requires.1,
+      bus_left w v.loop.invariant.0 r.neighbours.ensures f.first_above.ensures v.loop.invariant.1 c.if1.false s.requires.1,
       counted_next w v.loop.invariant.0 r.neighbours.ensures f.first_above.ensures v.loop.invariant.1 c.if1.false,
     )
 

@@ -3,7 +3,7 @@ use borrow.Author.Rules.{rules}
 use native.Mathlib.Omega.{arith}
 use mathlib.Core.Path.{refl}
 use Prim.Native.Nat.{◌-◌}
-use Rattle.outage.proofs.Searching.{Between, search_start, search-up, search-down, search_end}
+use Rattle.outage.proofs.Searching.{Between, search_start, search_up, search_down, search_end}
 use Rattle.outage.proofs.first_above.Statement.{statement}
 use Rattle.outage.proofs.first_above.Tie as tie
 
@@ -34,7 +34,7 @@ loop-less c = omega (arith, c.before.before.loop-test.true)
 loop-again : tie.Need-loop-preserved invariant-loop decreases-loop
 loop-again c =
     let i = c.before.before in
-    search-up i.before.before.before.requires i.before.loop.invariant (omega arith) (omega (arith, i.loop-test.true)) c.before.entry.ensures.0 c.if1.true
+    search_up i.before.before.before.requires i.before.loop.invariant (omega arith) (omega (arith, i.loop-test.true)) c.before.entry.ensures.0 c.if1.true
 
 loop-less-2 : tie.Need-loop-smaller-2 invariant-loop decreases-loop
 loop-less-2 c = omega (arith, c.before.before.loop-test.true)
@@ -42,7 +42,7 @@ loop-less-2 c = omega (arith, c.before.before.loop-test.true)
 loop-again-2 : tie.Need-loop-preserved-2 invariant-loop decreases-loop
 loop-again-2 c =
     let i = c.before.before in
-    search-down i.before.before.before.requires i.before.loop.invariant (omega arith) (omega (arith, i.loop-test.true)) c.before.entry.ensures.0 c.if1.false
+    search_down i.before.before.before.requires i.before.loop.invariant (omega arith) (omega (arith, i.loop-test.true)) c.before.entry.ensures.0 c.if1.false
 
 returns : tie.Need-returns invariant-loop decreases-loop
 returns c = search_end c.before.loop.invariant c.loop-test.false

@@ -8,7 +8,7 @@ use Prim.Native.Nat.{◌-◌, ◌≤◌}
 use lib.ListN.{length, take}
 use Rattle.lists.specs.Lists.{without, at, WrittenAt}
 use Rattle.lists.specs.Writes.{written_none}
-use Rattle.outage.proofs.Searching.{copied-length, many-le, copied_next, left_out, copied_all}
+use Rattle.outage.proofs.Searching.{copied_length, many_le, copied_next, left_out, copied_all}
 use Rattle.outage.proofs.leave_out.Statement.{statement}
 use Rattle.outage.proofs.leave_out.Tie as tie
 
@@ -23,7 +23,7 @@ begun c = c.before.before.before
 
 -- the lent entries stay as many
 long : (c : tie.At-loop invariant-loop decreases-loop) → length c.loop.left ≡ length (begun c).args.left.now
-long c = copied-length (begun c).args.row.now (begun c).args.bus c.loop.k _ c.loop.invariant.1 c.loop.invariant.0 (begun c).requires
+long c = copied_length (begun c).args.row.now (begun c).args.bus c.loop.k _ c.loop.invariant.1 c.loop.invariant.0 (begun c).requires
 
 loop-holds : tie.Need-loop-init invariant-loop decreases-loop
 loop-holds c = (omega arith, written_none _ 0)
@@ -39,18 +39,18 @@ shared-slice-read-left c = c.before.before.before.loop-test.true
 
 mul-left-2 : tie.Need-overflow-mul-left-2 invariant-loop decreases-loop
 mul-left-2 c =
-    let v = c.before.before.before.before in omega (arith, many-le (begun v).args.row.now (begun v).args.bus v.loop.k _ v.loop.invariant.1 c.before.before.before.loop-test.true)
+    let v = c.before.before.before.before in omega (arith, many_le (begun v).args.row.now (begun v).args.bus v.loop.k _ v.loop.invariant.1 c.before.before.before.loop-test.true)
 
 slice-write-left : tie.Need-slice-write-left invariant-loop decreases-loop
 slice-write-left c =
     let v = c.before.before.before.before in
     let s = begun v in
     let t = c.before.before.before.loop-test.true in
-    omega (arith, many-le s.args.row.now s.args.bus v.loop.k _ v.loop.invariant.1 t, long v, s.pre)
+    omega (arith, many_le s.args.row.now s.args.bus v.loop.k _ v.loop.invariant.1 t, long v, s.pre)
 
 add-many : tie.Need-overflow-add-many invariant-loop decreases-loop
 add-many c =
-    let v = c.before.before.before.before in omega (arith, many-le (begun v).args.row.now (begun v).args.bus v.loop.k _ v.loop.invariant.1 c.before.before.before.loop-test.true)
+    let v = c.before.before.before.before in omega (arith, many_le (begun v).args.row.now (begun v).args.bus v.loop.k _ v.loop.invariant.1 c.before.before.before.loop-test.true)
 
 add-k : tie.Need-overflow-add-k invariant-loop decreases-loop
 add-k c = search rules

@@ -6,7 +6,7 @@ use Rattle.lists.specs.Lists.{at}
 use Rattle.lists.specs.Loops.{by_end}
 use Rattle.signed.specs.Signed.{difference, Fronted}
 use Rattle.signed.specs.SignedBits.{read_back}
-use Rattle.signed.specs.SignedLists.{front-none, front-next, front-list}
+use Rattle.signed.specs.SignedLists.{front-none, front-next, front_list}
 use Rattle.outage.proofs.store.Statement.{statement}
 use Rattle.outage.proofs.store.Tie as tie
 
@@ -67,7 +67,7 @@ returns : tie.Need-returns invariant-loop decreases-loop
 returns c =
     let v = c.before in
     let s = begun v in
-    front-list _ _ _ _ (by_end (λ n. Fronted n (λ i. difference (at s.args.after.now i) (at s.args.before.now i)) s.args.changes.now v.loop.changes) v.loop.invariant.1 v.loop.invariant.0 c.loop-test.false) s.pre.0.2
+    front_list _ _ _ _ (by_end (λ n. Fronted n (λ i. difference (at s.args.after.now i) (at s.args.before.now i)) s.args.changes.now v.loop.changes) v.loop.invariant.1 v.loop.invariant.0 c.loop-test.false) s.pre.0.2
 
 pub store_spec : {M : Type 1} → statement M
 store_spec =

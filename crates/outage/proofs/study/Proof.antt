@@ -7,7 +7,7 @@ use Prim.Native.Nat.{◌<◌}
 use Rattle.table_spec.specs.Layout.{lines}
 use Rattle.table_spec.specs.Holds.{holds}
 use Rattle.table_spec.specs.Facts.{holds_test}
-use Rattle.outage_spec.specs.StudyDue.{study_due, no_line, too_few, enough, line-over, over_stored}
+use Rattle.outage_spec.specs.StudyDue.{study_due, no_line, too_few, enough, line_over, over_stored}
 use Rattle.outage.proofs.study.Statement.{statement}
 use Rattle.outage.proofs.study.Tie as tie
 
@@ -35,7 +35,7 @@ study-over-requires c κs =
     let m = e.before in
     let s = m.before.before in
     let b : s.args.line < lines s.args.table.now = omega (arith, e.if1.false, m.lines.ensures) in
-    ((s.requires, b, omega (arith, f.if2.false, f.before.bus-count.ensures.0)), line-over s.args.table.now (held s) s.args.line b c.before.denominator.ensures)
+    ((s.requires, b, omega (arith, f.if2.false, f.before.bus-count.ensures.0)), line_over s.args.table.now (held s) s.args.line b c.before.denominator.ensures)
 
 returns-3 : tie.Need-returns-3
 returns-3 c =

@@ -6,9 +6,9 @@ use Prim.Native.Nat.{ℕ}
 use Rattle.lists.specs.Lists.{at}
 use Rattle.table_spec.specs.Limits.{max_buses}
 use Rattle.outage_spec.specs.StudyOutcome.{Line}
-use Rattle.outage_spec.specs.WeakenedTable.{lower-inside}
+use Rattle.outage_spec.specs.WeakenedTable.{lower_inside}
 use Rattle.outage_spec.specs.EndTerms.{ends_with, ends_without}
-use Rattle.outage.proofs.Studying.{zeros_room, both_added, found, lower-divided, upper-divided, with-room, without-room, sums-fit, changes-stored}
+use Rattle.outage.proofs.Studying.{zeros_room, both_added, found, lower_divided, upper_divided, with_room, without_room, sums_fit, changes_stored}
 use Rattle.outage.proofs.study_over.Statement.{statement}
 use Rattle.outage.proofs.study_over.Tie as tie
 
@@ -26,9 +26,9 @@ add-end-requires c κs =
     let s = start e in
     let p = s.pre in
     let w = p.0.0 in (
-      (w, lower-inside w (line e), p.1.0),
+      (w, lower_inside w (line e), p.1.0),
       (
-        lower-divided w p.0.1 e.ends_of.ensures.0 e.ends_of.ensures.1 p.1.0 p.1.1,
+        lower_divided w p.0.1 e.ends_of.ensures.0 e.ends_of.ensures.1 p.1.0 p.1.1,
         ((zeros_room max_buses _ p.1.0.bounded, w.shape.complete.most), (zeros_room max_buses _ p.1.0.bounded, w.shape.complete.most)),
       ),
     )
@@ -44,10 +44,10 @@ add-end-requires-2 c κs =
     let up = e.ends_of.ensures.1 in (
       (w, (line e).inside, p.1.0),
       (
-        upper-divided w p.0.1 lo up p.1.0 p.1.1,
+        upper_divided w p.0.1 lo up p.1.0 p.1.1,
         (
-          (with-room w p.0.1 lo up p.1.0 p.1.1 max_buses m.add-end.ensures.0, omega (arith, m.add-end.ensures.0.long, w.shape.complete.most)),
-          (without-room w p.0.1 lo up p.1.0 p.1.1 max_buses m.add-end.ensures.1, omega (arith, m.add-end.ensures.1.long, w.shape.complete.most)),
+          (with_room w p.0.1 lo up p.1.0 p.1.1 max_buses m.add-end.ensures.0, omega (arith, m.add-end.ensures.0.long, w.shape.complete.most)),
+          (without_room w p.0.1 lo up p.1.0 p.1.1 max_buses m.add-end.ensures.1, omega (arith, m.add-end.ensures.1.long, w.shape.complete.most)),
         ),
       ),
     )
@@ -60,8 +60,8 @@ module _ (c : tie.After-add-end2) where
   abbrev named : tie.After-ends-of
   named = once.before.before.before
 
-  with-line : (v : ℕ) → at c.add-end2.new.1.1.1.1.0 v ≡ ends_with (start named).args.table.now named.ends_of.result.lower named.ends_of.result.upper (start named).args.over v
-  with-line = both_added max_buses once.add-end.ensures.0 c.add-end2.ensures.0
+  with_line : (v : ℕ) → at c.add-end2.new.1.1.1.1.0 v ≡ ends_with (start named).args.table.now named.ends_of.result.lower named.ends_of.result.upper (start named).args.over v
+  with_line = both_added max_buses once.add-end.ensures.0 c.add-end2.ensures.0
 
   without-line : (v : ℕ) → at c.add-end2.new.1.1.1.1.1.0 v ≡ ends_without (start named).args.table.now named.ends_of.result.lower named.ends_of.result.upper (start named).args.over v
   without-line = both_added max_buses once.add-end.ensures.1 c.add-end2.ensures.1
@@ -77,7 +77,7 @@ store-requires c κs =
         omega (arith, n, (once m).add-end.ensures.1.long, m.add-end2.ensures.1.long, p.0.0.shape.complete.most),
         omega (arith, n, p.0.2),
       ),
-      sums-fit p.0.0 p.0.1 e.ends_of.ensures.0 e.ends_of.ensures.1 p.1.0 p.1.1 _ _ (with-line m) (without-line m),
+      sums_fit p.0.0 p.0.1 e.ends_of.ensures.0 e.ends_of.ensures.1 p.1.0 p.1.1 _ _ (with_line m) (without-line m),
     )
 
 returns : tie.Need-returns
@@ -88,7 +88,7 @@ returns c =
     let e = named m in
     let s = start e in
     let p = s.pre in
-    changes-stored p.0.0 p.0.1 e.ends_of.ensures.0 e.ends_of.ensures.1 p.1.0 p.1.1 _ _ (with-line m) (without-line m)
+    changes_stored p.0.0 p.0.1 e.ends_of.ensures.0 e.ends_of.ensures.1 p.1.0 p.1.1 _ _ (with_line m) (without-line m)
     n.bus-count.result s.args.changes.now n.bus-count.ensures.0 d.store.ensures
 
 pub study-over-spec : {M : Type 1} → statement M

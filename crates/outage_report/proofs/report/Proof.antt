@@ -12,7 +12,7 @@ use Rattle.file_sections.specs.FileAnswers.{outcome_of_reading}
 use Rattle.read_spec.specs.ReadOutcome.{read_outcome}
 use Rattle.read_spec.specs.Recorded.{recorded}
 use Rattle.outage_report.specs.OutageReport.{studied, file_studied, printed}
-use Rattle.outage_report.specs.Printing.{print-studied, print-refused-file, print_short, print_file}
+use Rattle.outage_report.specs.Printing.{print_studied, print_refused_file, print_short, print_file}
 use Rattle.outage_report.proofs.report.Statement.{statement}
 use Rattle.outage_report.proofs.report.Tie as tie
 
@@ -57,7 +57,7 @@ returns_2 c =
     let r = e.before.before.before in
     let k = (numbered r).word.result in
     answered (start r).args.out.now c.write-study.ensures.0
-    (ap (λ t. studied t k) r.read.ensures.1.0 ∙ print-studied (file r) k (replicate max_entries 0) room (accepted e) ∙ printing r)
+    (ap (λ t. studied t k) r.read.ensures.1.0 ∙ print_studied (file r) k (replicate max_entries 0) room (accepted e) ∙ printing r)
     (omega (arith, c.write-study.ensures.1, c.write-study.auto.1.1.0))
 
 returns-3 : tie.Need-returns-3
@@ -65,7 +65,7 @@ returns-3 c =
     let q = c.before.before.before in
     let r = q.before.before.before in
     answered (start r).args.out.now c.write-refusal2.ensures.0
-    (print-refused-file (file r) (numbered r).word.result (replicate max_entries 0) room (sym r.read.ensures.0 ∙ ap outcome_of_reading q.cause.given.1) ∙ printing r)
+    (print_refused_file (file r) (numbered r).word.result (replicate max_entries 0) room (sym r.read.ensures.0 ∙ ap outcome_of_reading q.cause.given.1) ∙ printing r)
     (omega (arith, c.write-refusal2.ensures.1, c.write-refusal2.auto.1.0))
 
 pub report-spec : {M : Type 1} → statement M

@@ -10,7 +10,7 @@ use mir.ValLaws.{to_z-of_z}
 use Rattle.lists.specs.Lists.{WrittenAt}
 use Rattle.lists.specs.Writes.{stored-length}
 use Rattle.outage_report.specs.OutageReport.{line_of}
-use Rattle.outage_report.specs.ChangeWriting.{bus-fits, digits-fit, end-inside, line-written}
+use Rattle.outage_report.specs.ChangeWriting.{bus_fits, digits_fit, end_inside, line-written}
 use Rattle.outage_report.proofs.write_change.Statement.{statement}
 use Rattle.outage_report.proofs.write_change.Tie as tie
 
@@ -19,13 +19,13 @@ read : (s : tie.Start) → to_z w64 (of_z w64 s.args.change) ≡ s.args.change
 read s = to_z-of_z w64 _ s.ranges.change
 
 fill-template-requires : tie.Need-fill-template-requires
-fill-template-requires c κs = let s = c.before.before.before.before in (omega arith, bus-fits s.args.bus s.args.change s.args.out.now s.args.at s.requires)
+fill-template-requires c κs = let s = c.before.before.before.before in (omega arith, bus_fits s.args.bus s.args.change s.args.out.now s.args.at s.requires)
 
 signed-decimal-requires : tie.Need-signed-decimal-requires
 signed-decimal-requires c κs =
     let f = c.before.before.before in
     let s = f.before.before.before.before.before in
-    digits-fit s.args.bus s.args.change s.args.out.now s.args.at s.requires f.fill-template.ensures (read s)
+    digits_fit s.args.bus s.args.change s.args.out.now s.args.at s.requires f.fill-template.ensures (read s)
 
 -- the change is written behind the bus
 module _ (c : tie.After-signed-decimal) where
@@ -37,7 +37,7 @@ module _ (c : tie.After-signed-decimal) where
 
   inside : c.signed_decimal.result < length c.signed_decimal.new.1.0
   inside =
-      end-inside start.args.bus start.args.change start.args.out.now start.args.at start.pre filled.fill-template.ensures (read start) c.signed_decimal.ensures
+      end_inside start.args.bus start.args.change start.args.out.now start.args.at start.pre filled.fill-template.ensures (read start) c.signed_decimal.ensures
 
   written : let a = start.args in WrittenAt (line_of a.bus a.change) a.at a.out.now (c.signed_decimal.result + 1) (set c.signed_decimal.new.1.0 c.signed_decimal.result 10)
   written =

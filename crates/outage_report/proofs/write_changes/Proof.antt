@@ -9,7 +9,7 @@ use mir.Syntax.{w64}
 use mir.Val.{to_z, of_z}
 use Rattle.lists.specs.Lists.{WrittenAt}
 use Rattle.lists.specs.Below.{join_below}
-use Rattle.lists.specs.Writes.{written_start, written_next, written-done, written-length, written-fits}
+use Rattle.lists.specs.Writes.{written_start, written_next, written_done, written-length, written_fits}
 use Rattle.signed.specs.Signed.{signed_at}
 use Rattle.outage_report.specs.OutageReport.{line_of, lines_of}
 use Rattle.outage_report.specs.ChangeFits.{lines_fit, small_read}
@@ -43,7 +43,7 @@ write-change-requires : tie.Need-write-change-requires invariant-loop decreases-
 write-change-requires c κs =
     let v = c.before.before.before in
     let l = c.before.before.loop-test.true in
-    written-fits _ _ _ v.loop.invariant.1 _ (inside v.before.before) l (ap (line_of v.loop.bus) (read v l))
+    written_fits _ _ _ v.loop.invariant.1 _ (inside v.before.before) l (ap (line_of v.loop.bus) (read v l))
 
 loop-again : tie.Need-loop-preserved invariant-loop decreases-loop
 loop-again c =
@@ -59,7 +59,7 @@ returns : tie.Need-returns invariant-loop decreases-loop
 returns c =
     let v = c.before in
     let s = v.before.before in
-    let w = written-done _ _ _ v.loop.invariant.1 (length s.args.changes.now) v.loop.invariant.0 c.loop-test.false in
+    let w = written_done _ _ _ v.loop.invariant.1 (length s.args.changes.now) v.loop.invariant.0 c.loop-test.false in
     (w, omega (arith, w.0, lines_fit s.requires.0))
 
 pub write-changes-spec : {M : Type 1} → statement M

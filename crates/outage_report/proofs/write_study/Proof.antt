@@ -12,8 +12,8 @@ use Rattle.outage_spec.specs.StudyOutcome.{study_outcome}
 use Rattle.outage.specs.StudyAnswers.{outcome_of_study}
 use Rattle.outage_report.specs.OutageReport.{lines_of, studied}
 use Rattle.outage_report.specs.ChangeRoom.{Small}
-use Rattle.outage_report.specs.StoredChanges.{front_long, front-small, front-lines}
-use Rattle.outage_report.specs.Printing.{print-changes, print-refused-line}
+use Rattle.outage_report.specs.StoredChanges.{front_long, front_small, front-lines}
+use Rattle.outage_report.specs.Printing.{print_changes, print_refused_line}
 use Rattle.outage_report.proofs.write_study.Statement.{statement}
 use Rattle.outage_report.proofs.write_study.Tie as tie
 
@@ -47,12 +47,12 @@ module _ (c : tie.After-enum-told) where
   long = front_long start.args.table.now start.args.line lent counting.bus-count.ensures.0 accepted studying.study.ensures.1
 
   small : Small stored
-  small = front-small start.args.table.now start.args.line lent counting.bus-count.ensures.0 accepted studying.study.ensures.1
+  small = front_small start.args.table.now start.args.line lent counting.bus-count.ensures.0 accepted studying.study.ensures.1
 
   text : lines_of stored ≡ studied start.args.table.now start.args.line
   text =
       front-lines start.args.table.now start.args.line lent counting.bus-count.ensures.0 accepted studying.study.ensures.1
-      ∙ print-changes start.args.table.now start.args.line room accepted
+      ∙ print_changes start.args.table.now start.args.line room accepted
 
 slice-aggregate-write-changes : tie.Need-slice-aggregate-write-changes
 slice-aggregate-write-changes c = omega (arith, (counting c.before).bus-count.ensures.0, long c.before)
@@ -68,7 +68,7 @@ returns_2 c =
     let w = c.before.before in
     let q = w.before.before.before in
     let s = q.before.before.before.before.before.before.before.before in
-    let p = print-refused-line s.args.table.now s.args.line room (sym q.before.before.before.study.ensures.0 ∙ ap outcome_of_study q.cause.given.1) in
+    let p = print_refused_line s.args.table.now s.args.line room (sym q.before.before.before.study.ensures.0 ∙ ap outcome_of_study q.cause.given.1) in
     (rw p at w.write-refusal.ensures.0, omega (arith, w.write-refusal.ensures.1))
 
 pub write-study-spec : {M : Type 1} → statement M

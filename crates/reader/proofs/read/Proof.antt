@@ -4,14 +4,14 @@ use native.Mathlib.Omega.{arith}
 use mathlib.Core.Path.{◌≡◌, sym, ap, ◌∙◌}
 use lib.ListN.{length}
 use Rattle.refusals.specs.Outcomes.{gives}
-use Rattle.refusals.specs.Due.{stage-stop}
+use Rattle.refusals.specs.Due.{stage_stop}
 use Rattle.file_spec.specs.FileBytes.{file_bus_count, need_bytes, file_line_count, records}
 use Rattle.file_spec.specs.Sections.{section_causes, counts, sections_outcome}
-use Rattle.file_spec.specs.SoundSections.{length-needBytes, length-records, weights-complete}
+use Rattle.file_spec.specs.SoundSections.{length-need_bytes, length-records, weights-complete}
 use Rattle.file_sections.specs.FileAnswers.{outcome_of_reading}
 use Rattle.read_spec.specs.ReadOutcome.{record_causes}
 use Rattle.read_spec.specs.Recorded.{read_recorded}
-use Rattle.read_spec.specs.ReadDecides.{sound, counted, records-decide}
+use Rattle.read_spec.specs.ReadDecides.{sound, counted, records_decide}
 use Rattle.reader.proofs.read.Statement.{statement}
 use Rattle.reader.proofs.read.Tie as tie
 
@@ -35,7 +35,7 @@ read-records-requires c κs =
     let e = judged p.before.before in
     let w = sound _ e in
     let z = ap (λ n. n.lines) (counted _ e) in
-    let q = ap length p.need-bytes.ensures ∙ length-needBytes w in (
+    let q = ap length p.need-bytes.ensures ∙ length-need_bytes w in (
       omega (arith, q, w.first.buses),
       rw (b.weight-bytes.ensures, q) (weights-complete w),
       omega (arith, z, w.lines),
@@ -48,7 +48,7 @@ returns c =
     let f = a.file.now in
     let t = a.table.now in
     read_recorded f t
-    (stage-stop (section_causes f) (counts f) (record_causes (file_bus_count f) (need_bytes f) (file_line_count f) (records f) (length t))
+    (stage_stop (section_causes f) (counts f) (record_causes (file_bus_count f) (need_bytes f) (file_line_count f) (records f) (length t))
     (sym (ap outcome_of_reading c.before.cause.given.1) ∙ c.before.before.before.judge.ensures))
 
 returns_2 : tie.Need-returns-2
@@ -61,7 +61,7 @@ returns_2 c =
     let f = a.file.now in
     let t = a.table.now in
     read_recorded f t
-    (records-decide f (judged k) t p.need-bytes.ensures s.before.weight-bytes.ensures (ap (λ n. n.lines) (counted f (judged k))) s.records.ensures r.read-records.ensures)
+    (records_decide f (judged k) t p.need-bytes.ensures s.before.weight-bytes.ensures (ap (λ n. n.lines) (counted f (judged k))) s.records.ensures r.read-records.ensures)
 
 pub read_spec : {M : Type 1} → statement M
 read_spec =

@@ -3,17 +3,17 @@ use borrow.Author.Rules.{rules}
 use mathlib.Core.Path.{sym, ◌∙◌}
 use Rattle.lists.specs.Tests.{negated, passed}
 use Rattle.refusals.specs.Due.{stop, pass}
-use Rattle.file_spec.specs.SoundSections.{ends-facts}
+use Rattle.file_spec.specs.SoundSections.{ends_facts}
 use Rattle.reader.proofs.read_records.Statement.{statement}
 use Rattle.reader.proofs.read_records.Tie as tie
 
 returns : tie.Need-returns
-returns c = stop (negated c.before.sound-ends.ensures c.if1.true)
+returns c = stop (negated c.before.sound_ends_lem.ensures c.if1.true)
 
 returns_2 : tie.Need-returns-2
 returns_2 c =
     let e = c.before.before in
-    pass (negated e.before.sound-ends.ensures e.if1.false) (stop (sym c.before.out_of_order.ensures ∙ c.if2.true))
+    pass (negated e.before.sound_ends_lem.ensures e.if1.false) (stop (sym c.before.out_of_order.ensures ∙ c.if2.true))
 
 read-lines-requires : tie.Need-read-lines-requires
 read-lines-requires c κs =
@@ -25,7 +25,7 @@ read-lines-requires c κs =
       record {
         buses = h.0;
         lines = h.2;
-        ends = ends-facts _ _ _ (passed e.before.sound-ends.ensures e.if1.false);
+        ends = ends_facts _ _ _ (passed e.before.sound_ends_lem.ensures e.if1.false);
         order = sym d.before.out_of_order.ensures ∙ d.if2.false;
       },
     )
@@ -35,7 +35,7 @@ returns-3 c =
     let p = c.before.before in
     let d = p.before.before in
     let e = d.before.before in
-    pass (negated e.before.sound-ends.ensures e.if1.false) (pass (sym d.before.out_of_order.ensures ∙ d.if2.false) p.read-lines.ensures)
+    pass (negated e.before.sound_ends_lem.ensures e.if1.false) (pass (sym d.before.out_of_order.ensures ∙ d.if2.false) p.read-lines.ensures)
 
 pub read-records-spec : {M : Type 1} → statement M
 read-records-spec =

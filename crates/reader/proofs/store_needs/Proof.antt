@@ -8,7 +8,7 @@ use lib.ListN.{length, take, length-set}
 use lib.Seq.{take_all, length-take-le}
 use Rattle.lists.specs.Lists.{at, put}
 use Rattle.lists.specs.Places.{take_next}
-use Rattle.lists.specs.Writes.{put-none, put-over, stored-length, stored-entry}
+use Rattle.lists.specs.Writes.{put-none, put_over, stored-length, stored_entry}
 use Rattle.reader.proofs.store_needs.Statement.{statement}
 use Rattle.reader.proofs.store_needs.Tie as tie
 
@@ -32,7 +32,7 @@ loop-holds : tie.Need-loop-init invariant-loop decreases-loop
 loop-holds c =
     let t = c.args.table.now in
     let n = length c.args.needs.now in
-    (search rules, stored-entry t 0 [] (sym (put-none t 0)) refl n (omega (arith, c.requires.1)) ∙ sym (put-over t 0 (n ∷ []) n (omega arith)))
+    (search rules, stored_entry t 0 [] (sym (put-none t 0)) refl n (omega (arith, c.requires.1)) ∙ sym (put_over t 0 (n ∷ []) n (omega arith)))
 
 cast-table-2 : tie.Need-overflow-cast-table-2 invariant-loop decreases-loop
 cast-table-2 c = omega (arith, c.shared-slice-known.given c.before.before.loop.bus)
@@ -48,7 +48,7 @@ loop-again c =
     let q = a.needs.now in
     let z = length-set a.table.now 0 (length q) in (
       search rules,
-      stored-entry _ _ _ v.loop.invariant.1 (next v) _ (omega (arith, v.before.requires.1))
+      stored_entry _ _ _ v.loop.invariant.1 (next v) _ (omega (arith, v.before.requires.1))
           ∙ ap (put _ _) (ap (λ l. length q ∷ l) (sym (take_next v.loop.bus q (omega arith)))),
     )
 
@@ -60,7 +60,7 @@ returns c =
     let a = c.before.before.args in
     let q = a.needs.now in
     c.before.loop.invariant.1
-    ∙ put-over a.table.now 0 (length q ∷ take c.before.loop.bus q) (length q) (omega arith)
+    ∙ put_over a.table.now 0 (length q ∷ take c.before.loop.bus q) (length q) (omega arith)
     ∙ ap (λ l. put a.table.now 0 (length q ∷ l)) (take_all _ _ c.loop-test.false)
 
 pub store-needs-spec : {M : Type 1} → statement M

@@ -9,7 +9,7 @@ use Rattle.lists.specs.Lists.{put}
 use Rattle.lists.specs.Below.{join_below, map_below}
 use Rattle.lists.specs.JoinBelow.{length-map_below}
 use Rattle.lists.specs.Loops.{map_below-next, by_end}
-use Rattle.lists.specs.Writes.{put-none, stored-length, stored-entry}
+use Rattle.lists.specs.Writes.{put-none, stored-length, stored_entry}
 use Rattle.file_spec.specs.FileBytes.{weight_in}
 use Rattle.reader.proofs.store_weights.Statement.{statement}
 use Rattle.reader.proofs.store_weights.Tie as tie
@@ -47,7 +47,7 @@ loop-again c =
     let a = (start v).args in
     let w = weight_in a.section.now in (
       search rules,
-      stored-entry _ _ _ v.loop.invariant.1 (next v) _ (omega (arith, (start v).requires.1))
+      stored_entry _ _ _ v.loop.invariant.1 (next v) _ (omega (arith, (start v).requires.1))
           ∙ ap (λ x. put a.table.now a.from (map_below v.loop.bus w ++ (x ∷ []))) c.weight-in.ensures.0
           ∙ ap (put a.table.now a.from) (sym (map_below-next v.loop.bus w)),
     )

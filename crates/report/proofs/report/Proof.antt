@@ -12,7 +12,7 @@ use Rattle.read_spec.specs.ReadOutcome.{read_outcome}
 use Rattle.read_spec.specs.Recorded.{recorded}
 use Rattle.two_way.specs.TwoWay.{network_of}
 use Rattle.whole_sheet.specs.WholeSheet.{whole_sheet}
-use Rattle.report.specs.Printing.{print-sheet, print-refusal}
+use Rattle.report.specs.Printing.{print_sheet, print_refusal}
 use Rattle.report.proofs.report.Statement.{statement}
 use Rattle.report.proofs.report.Tie as tie
 
@@ -23,7 +23,7 @@ returns_2 : tie.Need-returns-2
 returns_2 c =
     let q = c.before.before.before in
     let f = q.before.before.before.before.before.before.args.file.now in
-    let p = print-refusal f (replicate max_entries 0) room (sym q.before.before.before.read.ensures.0 ∙ ap outcome_of_reading q.cause.given.1) in
+    let p = print_refusal f (replicate max_entries 0) room (sym q.before.before.before.read.ensures.0 ∙ ap outcome_of_reading q.cause.given.1) in
     ((omega (arith, c.write-refusal.ensures.0.0, ap length p), omega (arith, c.write-refusal.ensures.1, c.write-refusal.auto.1.0)), c.write-refusal.ensures.0.1 ∙ ap (put _ 0) p)
 
 -- Read accepted the file
@@ -39,7 +39,7 @@ returns : tie.Need-returns
 returns c =
     let e = c.before.before.before in
     let f = e.before.before.before.before.before.before.args.file.now in
-    let p = ap (λ t. whole_sheet (network_of t)) e.before.before.before.read.ensures.1.0 ∙ print-sheet f (replicate max_entries 0) room (accepted e) in
+    let p = ap (λ t. whole_sheet (network_of t)) e.before.before.before.read.ensures.1.0 ∙ print_sheet f (replicate max_entries 0) room (accepted e) in
     ((omega (arith, c.write-sheet.ensures.0.0, ap length p), omega (arith, c.write-sheet.ensures.1, c.write-sheet.auto.1.0)), c.write-sheet.ensures.0.1 ∙ ap (put _ 0) p)
 
 pub report-spec : {M : Type 1} → statement M

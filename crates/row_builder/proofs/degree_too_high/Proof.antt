@@ -8,7 +8,7 @@ use borrow.Author.Tests.{lt-ltb, le-ltb}
 use lib.Dec.{ltb}
 use Rattle.lists.specs.Lists.{at}
 use Rattle.lists.specs.Below.{any_below}
-use Rattle.lists.specs.Loops.{by_end, any_below_start, anyBelow-by, anyBelow-more}
+use Rattle.lists.specs.Loops.{by_end, any_below_start, any_below_by, any_below_more}
 use Rattle.table_spec.specs.Limits.{max_degree}
 use Rattle.row_builder.proofs.degree_too_high.Statement.{statement}
 use Rattle.row_builder.proofs.degree_too_high.Tie as tie
@@ -28,11 +28,11 @@ loop-holds c = (search rules, any_below_start _)
 
 returns : tie.Need-returns invariant-loop decreases-loop
 unfolding at
-returns c = let v = c.before.before.before in sym (anyBelow-by (λ i. ltb max_degree (at v.before.args.counts.now i)) v.before.args.n v.loop.bus c.before.before.loop-test.true (lt-ltb max_degree _ c.if1.true))
+returns c = let v = c.before.before.before in sym (any_below_by (λ i. ltb max_degree (at v.before.args.counts.now i)) v.before.args.n v.loop.bus c.before.before.loop-test.true (lt-ltb max_degree _ c.if1.true))
 
 loop-again : tie.Need-loop-preserved invariant-loop decreases-loop
 unfolding at
-loop-again c = (search rules, anyBelow-more _ _ c.before.before.before.loop.invariant.1 (le-ltb max_degree _ c.if1.false))
+loop-again c = (search rules, any_below_more _ _ c.before.before.before.loop.invariant.1 (le-ltb max_degree _ c.if1.false))
 
 returns_2 : tie.Need-returns-2 invariant-loop decreases-loop
 returns_2 c = let v = c.before in sym (by_end (λ k. too_high v.before.args.counts.now k ≡ false) v.loop.invariant.1 v.loop.invariant.0 c.loop-test.false)

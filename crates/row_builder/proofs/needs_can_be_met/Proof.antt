@@ -7,7 +7,7 @@ use Prim.Native.Nat.{◌-◌, ◌≤◌}
 use lib.ListN.{length}
 use Rattle.lists.specs.Lists.{at}
 use Rattle.lists.specs.Tests.{passed, failed}
-use Rattle.lists.specs.Loops.{all_below_start, allBelow-more, allBelow-fails, allBelow-done}
+use Rattle.lists.specs.Loops.{all_below_start, all_below_more, all_below_fails, all_below_done}
 use Rattle.table_spec.specs.Holds.{can_be_met, needs_can_be_met}
 use Rattle.row_builder.proofs.needs_can_be_met.Statement.{statement}
 use Rattle.row_builder.proofs.needs_can_be_met.Tie as tie
@@ -30,13 +30,13 @@ unfolding at
 judged c = c.can-be-met.ensures ∙ ap (can_be_met _) c.before.entry.ensures.0
 
 returns : tie.Need-returns invariant-loop decreases-loop
-returns c = sym (allBelow-fails _ _ _ c.before.before.before.before.loop-test.true (failed (judged c.before) c.if1.true))
+returns c = sym (all_below_fails _ _ _ c.before.before.before.before.loop-test.true (failed (judged c.before) c.if1.true))
 
 loop-again : tie.Need-loop-preserved invariant-loop decreases-loop
-loop-again c = (search rules, allBelow-more _ _ c.before.before.before.before.before.loop.invariant.1 (passed (judged c.before) c.if1.false))
+loop-again c = (search rules, all_below_more _ _ c.before.before.before.before.before.loop.invariant.1 (passed (judged c.before) c.if1.false))
 
 returns_2 : tie.Need-returns-2 invariant-loop decreases-loop
-returns_2 c = sym (allBelow-done _ _ _ c.before.loop.invariant.1 c.before.loop.invariant.0 c.loop-test.false)
+returns_2 c = sym (all_below_done _ _ _ c.before.loop.invariant.1 c.before.loop.invariant.0 c.loop-test.false)
 
 pub needs-can-be-met-spec : {M : Type 1} → statement M
 needs-can-be-met-spec =

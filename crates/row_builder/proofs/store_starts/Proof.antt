@@ -10,7 +10,7 @@ use Rattle.lists.specs.Below.{sum_below, map_below, join_below}
 use Rattle.lists.specs.Loops.{by_end, sum_below-next, map_below-next}
 use Rattle.lists.specs.SumsBelow.{sum_below-next-le}
 use Rattle.lists.specs.JoinBelow.{length-map_below, map_below-at}
-use Rattle.lists.specs.Writes.{put-none, at_front, behind-front, stored-length, stored-entry}
+use Rattle.lists.specs.Writes.{put-none, at_front, behind-front, stored-length, stored_entry}
 use Rattle.row_builder.proofs.store_starts.Statement.{statement}
 use Rattle.row_builder.proofs.store_starts.Tie as tie
 
@@ -24,7 +24,7 @@ module _ (t : List ℕ) (i k : ℕ) (f : ℕ → ℕ) {u : List ℕ} (w : u ≡ 
 
   listed_next : {j x : ℕ} → j ≡ i + k → x ≡ f k → i + k < length t → set u j x ≡ put t i (map_below (k + 1) f)
   listed_next e q h =
-      stored-entry t i (map_below k f) w (e ∙ place) _ (omega arith)
+      stored_entry t i (map_below k f) w (e ∙ place) _ (omega arith)
       ∙ ap (put t i) (ap (λ x. map_below k f ++ (x ∷ [])) q ∙ sym (map_below-next k f))
 
 abbrev starts : List ℕ → ℕ → ℕ

@@ -7,9 +7,9 @@ use lib.ListN.{length, get_or}
 use Rattle.lists.specs.Lists.{at}
 use Rattle.table_spec.specs.Rows.{degree-le}
 use Rattle.share_terms.specs.Unit.{unit}
-use Rattle.share_terms.specs.RowTerms.{terms-asked}
+use Rattle.share_terms.specs.RowTerms.{terms_asked}
 use Rattle.scorer.specs.ScorerWork.{degrees}
-use Rattle.scorer.proofs.Scoring.{terms-room, all-terms}
+use Rattle.scorer.proofs.Scoring.{terms_room, all_terms}
 use Rattle.scorer.proofs.add_bus.Statement.{statement}
 use Rattle.scorer.proofs.add_bus.Tie as tie
 
@@ -21,12 +21,12 @@ module _ (c : tie.After-need) where
   abbrev d : ℕ
   d = length c.before.before.neighbours.result.now
 
-  degree-fits : d < degrees
-  degree-fits = omega (arith, ap length c.before.before.neighbours.ensures, degree-le start.pre.0.0 start.args.bus start.pre.0.1)
+  degree_fits : d < degrees
+  degree_fits = omega (arith, ap length c.before.before.neighbours.ensures, degree-le start.pre.0.0 start.args.bus start.pre.0.1)
 
-  unit-is : get_or start.args.units.now d 0 ≡ unit start.args.over d
+  unit_is : get_or start.args.units.now d 0 ≡ unit start.args.over d
   unfolding at
-  unit-is = start.pre.1.0 _ degree-fits
+  unit_is = start.pre.1.0 _ degree_fits
 
 add-terms-requires : tie.Need-add-terms-requires
 add-terms-requires c κs =
@@ -34,8 +34,8 @@ add-terms-requires c κs =
     let s = start n in
     let er = n.before.before.neighbours.ensures in
     let ek = n.need.ensures in (
-      terms-asked s.pre.0.0 s.pre.0.1 er n.before.weight.ensures.1 ek s.pre.0.2 (unit-is n),
-      terms-room s.pre.0.0 s.pre.0.2 s.pre.0.1 er s.args.numerators.now s.pre.1.1,
+      terms_asked s.pre.0.0 s.pre.0.1 er n.before.weight.ensures.1 ek s.pre.0.2 (unit_is n),
+      terms_room s.pre.0.0 s.pre.0.2 s.pre.0.1 er s.args.numerators.now s.pre.1.1,
     )
 
 same_length : tie.Need-same-length
@@ -46,7 +46,7 @@ returns c =
     let m = c.before.before in
     let n = m.before.before.before in
     let s = start n in
-    all-terms s.pre.0.0 s.pre.0.2 s.pre.0.1 n.before.before.neighbours.ensures n.before.weight.ensures.0 n.need.ensures m.add-terms.ensures
+    all_terms s.pre.0.0 s.pre.0.2 s.pre.0.1 n.before.before.neighbours.ensures n.before.weight.ensures.0 n.need.ensures m.add-terms.ensures
 
 pub add-bus-spec : {M : Type 1} → statement M
 add-bus-spec =
@@ -55,8 +55,8 @@ add-bus-spec =
     (λ c κs. search rules)
     (λ c κs. search rules)
     (λ c κs. search rules)
-    (λ c. omega (arith, degree-fits c))
-    degree-fits
+    (λ c. omega (arith, degree_fits c))
+    degree_fits
     add-terms-requires
     same_length
     returns)

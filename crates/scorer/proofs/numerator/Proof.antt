@@ -5,7 +5,7 @@ use mathlib.Core.Path.{◌≡◌}
 use Prim.Native.Nat.{◌-◌, ◌*◌, ◌≤◌, ◌<◌}
 use lib.ListN.{length}
 use Rattle.table_spec.specs.Layout.{bus_count, row}
-use Rattle.scorer.proofs.Summing.{summed, rest-fits, own-fits, sum-start, sum-end, neighbour-in, given-fits, sum-next, sum_fits}
+use Rattle.scorer.proofs.Summing.{summed, rest_fits, own_fits, sum_start, sum_end, neighbour_in, given_fits, sum-next, sum_fits}
 use Rattle.scorer.proofs.numerator.Statement.{statement}
 use Rattle.scorer.proofs.numerator.Tie as tie
 
@@ -24,16 +24,16 @@ module _ (c : tie.After-given invariant-loop decreases-loop) where
   s = n.before.before
 
   fits : length n.neighbours.result.now * c.given.result ≤ s.args.over
-  fits = rest-fits s.pre.0 s.pre.2 s.pre.1 n.neighbours.ensures c.given.ensures
+  fits = rest_fits s.pre.0 s.pre.2 s.pre.1 n.neighbours.ensures c.given.ensures
 
 mul-sum : tie.Need-overflow-mul-sum invariant-loop decreases-loop
 mul-sum c = omega (arith, fits c, (s c).requires.2.bounded)
 
 mul-sum-2 : tie.Need-overflow-mul-sum-2 invariant-loop decreases-loop
-mul-sum-2 c = omega (arith, own-fits (s c).requires.0 (s c).requires.2 (s c).requires.1 (n c).neighbours.ensures c.given.ensures c.before.weight.ensures.0)
+mul-sum-2 c = omega (arith, own_fits (s c).requires.0 (s c).requires.2 (s c).requires.1 (n c).neighbours.ensures c.given.ensures c.before.weight.ensures.0)
 
 loop-holds : tie.Need-loop-init invariant-loop decreases-loop
-loop-holds c = (search rules, sum-start (s c).requires.0 (s c).requires.2 (s c).requires.1 (n c).neighbours.ensures c.given.ensures c.before.weight.ensures.0)
+loop-holds c = (search rules, sum_start (s c).requires.0 (s c).requires.2 (s c).requires.1 (n c).neighbours.ensures c.given.ensures c.before.weight.ensures.0)
 
 -- a neighbour
 abbrev start : tie.After-entry invariant-loop decreases-loop → tie.Start invariant-loop decreases-loop
@@ -42,7 +42,7 @@ start c = c.before.before.before.before.before.before.before
 neighbour_is : (c : tie.After-entry invariant-loop decreases-loop) → c.entry.result < bus_count (start c).args.table.now
 neighbour_is c =
     let s = start c in
-    neighbour-in s.pre.0 s.pre.2 s.pre.1 c.before.before.before.before.before.neighbours.ensures c.before.loop-test.true c.entry.ensures.0
+    neighbour_in s.pre.0 s.pre.2 s.pre.1 c.before.before.before.before.before.neighbours.ensures c.before.loop-test.true c.entry.ensures.0
 
 given-requires-2 : tie.Need-given-requires-2 invariant-loop decreases-loop
 given-requires-2 c κs = let s = start c.before in (s.pre.0, omega (arith, neighbour_is c.before, s.pre.1), s.pre.2)
@@ -61,7 +61,7 @@ mul-sum-3 c =
     let s = start p in
     omega (
       arith,
-      given-fits s.pre.0 s.pre.2 s.pre.1 p.before.before.before.before.before.neighbours.ensures p.before.loop-test.true p.entry.ensures.0 c.given2.ensures c.before.weight2.ensures.0,
+      given_fits s.pre.0 s.pre.2 s.pre.1 p.before.before.before.before.before.neighbours.ensures p.before.loop-test.true p.entry.ensures.0 c.given2.ensures c.before.weight2.ensures.0,
     )
 
 add-sum : tie.Need-overflow-add-sum invariant-loop decreases-loop
@@ -76,7 +76,7 @@ add-sum c =
 returns : tie.Need-returns invariant-loop decreases-loop
 returns c =
     let g = c.before.before in
-    sum-end (s g).requires.0 (s g).requires.2 (s g).requires.1 (n g).neighbours.ensures c.before.loop.invariant.1 c.loop-test.false
+    sum_end (s g).requires.0 (s g).requires.2 (s g).requires.1 (n g).neighbours.ensures c.before.loop.invariant.1 c.loop-test.false
 
 pub numerator-spec : {M : Type 1} → statement M
 numerator-spec =

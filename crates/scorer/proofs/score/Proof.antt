@@ -6,8 +6,8 @@ use Rattle.lists.specs.Below.{map_below}
 use Rattle.lists.specs.JoinBelow.{map_below-same}
 use Rattle.table_spec.specs.Layout.{bus_count}
 use Rattle.share_spec.specs.Formula.{numerator_over}
-use Rattle.share_spec.specs.FairFormula.{as-game}
-use Rattle.share_spec.specs.TableGame.{own-over}
+use Rattle.share_spec.specs.FairFormula.{as_game}
+use Rattle.share_spec.specs.TableGame.{own_over}
 use Rattle.two_way.specs.TwoWay.{network_of}
 use Rattle.two_way.specs.TwoWaySound.{watching}
 use Rattle.scorer.proofs.score.Statement.{statement}
@@ -16,7 +16,7 @@ use Rattle.scorer.proofs.score.Tie as tie
 score-over-requires : tie.Need-score-over-requires
 score-over-requires c κs =
     let s = c.before.before.before.before in
-    (s.requires.0.shape, s.requires.1, own-over s.requires.0.shape c.before.denominator.ensures)
+    (s.requires.0.shape, s.requires.1, own_over s.requires.0.shape c.before.denominator.ensures)
 
 returns : tie.Need-returns
 returns c =
@@ -28,7 +28,7 @@ returns c =
       d.denominator.ensures,
       p.score-over.ensures
           ∙ ap (put s.args.numerators.now 0)
-          (map_below-same _ _ (bus_count t) (as-game (watching w.shape w.mirrored) d.denominator.result)
+          (map_below-same _ _ (bus_count t) (as_game (watching w.shape w.mirrored) d.denominator.result)
           ∙ ap (λ L. map_below (bus_count t) (numerator_over (network_of t) L)) d.denominator.ensures),
     )
 

@@ -8,8 +8,8 @@ use Rattle.lists.specs.Below.{sum_below}
 use Rattle.share_spec.specs.TableNetwork.{game_of}
 use Rattle.share_spec.specs.TermsGiven.{given_by}
 use Rattle.share_terms.specs.Added.{Added}
-use Rattle.share_terms.specs.Adding.{added_none, cleared-long}
-use Rattle.scorer.proofs.Scoring.{bus_added, bus-room, all-added}
+use Rattle.share_terms.specs.Adding.{added_none, cleared_long}
+use Rattle.scorer.proofs.Scoring.{bus_added, bus_room, all_added}
 use Rattle.scorer.proofs.score_over.Statement.{statement}
 use Rattle.scorer.proofs.score_over.Tie as tie
 
@@ -48,7 +48,7 @@ add-bus-requires c κs =
     let v = i.before in
     let s = start v in (
       (s.pre.0, omega (arith, (sized v).bus-count.ensures.0, i.loop-test.true), s.pre.2),
-      ((cleared v).before.before.units.ensures, bus-room s.pre.0 s.pre.2 s.args.numerators.now (sized v).bus-count.ensures.0 (long v) (cleared v).clear.ensures v.loop.bus v.loop.invariant.1 i.loop-test.true),
+      ((cleared v).before.before.units.ensures, bus_room s.pre.0 s.pre.2 s.args.numerators.now (sized v).bus-count.ensures.0 (long v) (cleared v).clear.ensures v.loop.bus v.loop.invariant.1 i.loop-test.true),
     )
 
 loop-again : tie.Need-loop-preserved invariant-loop decreases-loop
@@ -61,13 +61,13 @@ loop-again c =
 same_length : tie.Need-same-length invariant-loop decreases-loop
 same_length c =
     let v = c.before in
-    v.loop.invariant.1.long ∙ cleared-long (start v).args.numerators.now (long v) (cleared v).clear.ensures
+    v.loop.invariant.1.long ∙ cleared_long (start v).args.numerators.now (long v) (cleared v).clear.ensures
 
 returns : tie.Need-returns invariant-loop decreases-loop
 returns c =
     let v = c.before in
     let s = start v in
-    all-added s.pre.0 s.pre.2 s.args.numerators.now (sized v).bus-count.ensures.0 (long v) (cleared v).clear.ensures v.loop.bus v.loop.invariant.1 v.loop.invariant.0 c.loop-test.false
+    all_added s.pre.0 s.pre.2 s.args.numerators.now (sized v).bus-count.ensures.0 (long v) (cleared v).clear.ensures v.loop.bus v.loop.invariant.1 v.loop.invariant.0 c.loop-test.false
 
 pub score-over-spec : {M : Type 1} → statement M
 score-over-spec =

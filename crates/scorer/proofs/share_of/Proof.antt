@@ -1,6 +1,6 @@
 -- `scorer::share_of` meets its contract.
 use borrow.Author.Rules.{rules}
-use Rattle.share_spec.specs.TableGame.{own-over}
+use Rattle.share_spec.specs.TableGame.{own_over}
 use Rattle.share_spec.specs.SharePromises.{own-numerator}
 use Rattle.scorer.proofs.share_of.Statement.{statement}
 use Rattle.scorer.proofs.share_of.Tie as tie
@@ -8,7 +8,7 @@ use Rattle.scorer.proofs.share_of.Tie as tie
 numerator-requires : tie.Need-numerator-requires
 numerator-requires c κs =
     let s = c.before.before in
-    (s.requires.0.shape, s.requires.1, own-over s.requires.0.shape c.denominator.ensures)
+    (s.requires.0.shape, s.requires.1, own_over s.requires.0.shape c.denominator.ensures)
 
 returns : tie.Need-returns
 returns c =

@@ -6,11 +6,11 @@ use mathlib.Core.Path.{◌≡◌, refl, ◌∙◌}
 use Rattle.lists.specs.Tests.{passed, failed}
 use Rattle.refusals.specs.Due.{accept, below, not-below}
 use Rattle.table_spec.specs.Holds.{holds}
-use Rattle.table_spec.specs.Facts.{holds-facts}
-use Rattle.table_spec.specs.TableCauses.{no-network, on-held}
+use Rattle.table_spec.specs.Facts.{holds_facts}
+use Rattle.table_spec.specs.TableCauses.{no_network, on_held}
 use Rattle.two_way.specs.TwoWay.{network_of}
 use Rattle.two_way.specs.TwoWaySound.{held_sound}
-use Rattle.share_spec.specs.SharePromises.{put_stored, shares-promised}
+use Rattle.share_spec.specs.SharePromises.{put_stored, shares_promised}
 use Rattle.scorer.proofs.shares.Statement.{statement}
 use Rattle.scorer.proofs.shares.Tie as tie
 
@@ -21,28 +21,28 @@ held c = passed c.before.holds.ensures c.if1.false
 returns : tie.Need-returns
 returns c =
     let a = c.before.before.before.before.args in
-    shares-promised (network_of a.table.now) (held_sound a.table.now) _ (no-network (failed c.before.holds.ensures c.if1.true))
+    shares_promised (network_of a.table.now) (held_sound a.table.now) _ (no_network (failed c.before.holds.ensures c.if1.true))
 
 bus-count-requires : tie.Need-bus-count-requires
-bus-count-requires c κs = let z = (holds-facts _ (held c)).shape.complete in omega arith
+bus-count-requires c κs = let z = (holds_facts _ (held c)).shape.complete in omega arith
 
 returns_2 : tie.Need-returns-2
 returns_2 c =
     let a = c.before.before.before.before.before.before.args in
-    shares-promised (network_of a.table.now) (held_sound a.table.now) _
-    (on-held (held c.before.before) (below refl c.before.bus-count.ensures.0 c.if2.true))
+    shares_promised (network_of a.table.now) (held_sound a.table.now) _
+    (on_held (held c.before.before) (below refl c.before.bus-count.ensures.0 c.if2.true))
 
 returns-3 : tie.Need-returns-3
 returns-3 c =
     let p = c.before.before in
     let e = p.before.before in
     let a = e.before.before.before.before.before.before.args in
-    shares-promised (network_of a.table.now) (held_sound a.table.now) _
-    (on-held (held e.before.before) (not-below refl e.before.bus-count.ensures.0 e.if2.false (accept p.score.ensures.0 (p.score.ensures.1 ∙ put_stored _ _))))
+    shares_promised (network_of a.table.now) (held_sound a.table.now) _
+    (on_held (held e.before.before) (not-below refl e.before.bus-count.ensures.0 e.if2.false (accept p.score.ensures.0 (p.score.ensures.1 ∙ put_stored _ _))))
 
 score-requires : tie.Need-score-requires
 score-requires c κs =
-    let e = c.before in (holds-facts _ (held e.before.before), omega (arith, e.before.bus-count.ensures.0, e.if2.false))
+    let e = c.before in (holds_facts _ (held e.before.before), omega (arith, e.before.bus-count.ensures.0, e.if2.false))
 
 pub shares-spec : {M : Type 1} → statement M
 shares-spec =

@@ -2,7 +2,7 @@
 use borrow.Author.Rules.{rules}
 use mathlib.Core.Path.{ap, subst}
 use Rattle.fraction.specs.Cancel.{outcome_of_cancelled, CancelRule}
-use Rattle.share_sheet_c.specs.StatusLaws.{refused, status-keeps, accepted}
+use Rattle.share_sheet_c.specs.StatusLaws.{refused, status_keeps, accepted}
 use Rattle.share_sheet_c.proofs.share_sheet_cancel.Statement.{statement}
 use Rattle.share_sheet_c.proofs.share_sheet_cancel.Tie as tie
 
@@ -11,7 +11,7 @@ returns c =
     let m = c.before.before in
     let a = m.before.before in
     let says = ap outcome_of_cancelled m.cause.given.1 in
-    (refused says c.status.ensures a.cancel.ensures.0, status-keeps (CancelRule _ _) m.cause.given.0.0 _ says c.status.ensures a.cancel.ensures.1)
+    (refused says c.status.ensures a.cancel.ensures.0, status_keeps (CancelRule _ _) m.cause.given.0.0 _ says c.status.ensures a.cancel.ensures.1)
 
 returns_2 : tie.Need-returns-2
 returns_2 c =

@@ -7,7 +7,7 @@ use lib.IntN.{ℤ}
 use Rattle.refusals.specs.Outcomes.{Outcome}
 use Rattle.outage_spec.specs.StudyOutcome.{AllStudied}
 use Rattle.outage.specs.StudyAnswers.{outcome_of_study}
-use Rattle.share_sheet_c.specs.StatusLaws.{refused, status-keeps, accepted}
+use Rattle.share_sheet_c.specs.StatusLaws.{refused, status_keeps, accepted}
 use Rattle.share_sheet_c.proofs.share_sheet_outage.Statement.{statement}
 use Rattle.share_sheet_c.proofs.share_sheet_outage.Tie as tie
 
@@ -20,7 +20,7 @@ returns c =
     let m = c.before.before in
     let a = m.before.before.before in
     let says = ap outcome_of_study m.cause.given.1 in
-    (refused says c.status.ensures a.changes.ensures.0, (a.changes.ensures.1.0, status-keeps (StudiedAs _ _ _ _) m.cause.given.0.0 _ says c.status.ensures a.changes.ensures.1.1))
+    (refused says c.status.ensures a.changes.ensures.0, (a.changes.ensures.1.0, status_keeps (StudiedAs _ _ _ _) m.cause.given.0.0 _ says c.status.ensures a.changes.ensures.1.1))
 
 returns_2 : tie.Need-returns-2
 returns_2 c =

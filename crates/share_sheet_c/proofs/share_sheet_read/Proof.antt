@@ -7,7 +7,7 @@ use Rattle.refusals.specs.Outcomes.{Outcome}
 use Rattle.network.specs.declared.Counts.{Counts}
 use Rattle.file_sections.specs.FileAnswers.{outcome_of_reading}
 use Rattle.read_spec.specs.ReadOutcome.{Recorded}
-use Rattle.share_sheet_c.specs.StatusLaws.{refused, status-keeps, accepted}
+use Rattle.share_sheet_c.specs.StatusLaws.{refused, status_keeps, accepted}
 use Rattle.share_sheet_c.proofs.share_sheet_read.Statement.{statement}
 use Rattle.share_sheet_c.proofs.share_sheet_read.Tie as tie
 
@@ -20,7 +20,7 @@ returns c =
     let m = c.before.before in
     let a = m.before.before.before.before in
     let says = ap outcome_of_reading m.cause.given.1 in
-    (refused says c.status.ensures a.read.ensures.0, (a.read.ensures.1.0, status-keeps (RecordedAs _ _ _) m.cause.given.0.0 _ says c.status.ensures a.read.ensures.1.1))
+    (refused says c.status.ensures a.read.ensures.0, (a.read.ensures.1.0, status_keeps (RecordedAs _ _ _) m.cause.given.0.0 _ says c.status.ensures a.read.ensures.1.1))
 
 returns_2 : tie.Need-returns-2
 returns_2 c =

@@ -3,7 +3,7 @@ use borrow.Author.Rules.{rules}
 use mathlib.Core.Path.{ap, subst}
 use Rattle.table_spec.specs.TableOutcomes.{RowStands}
 use Rattle.table_lookup.specs.LookupAnswers.{outcome_of_place}
-use Rattle.share_sheet_c.specs.StatusLaws.{refused, status-keeps, accepted}
+use Rattle.share_sheet_c.specs.StatusLaws.{refused, status_keeps, accepted}
 use Rattle.share_sheet_c.proofs.share_sheet_row.Statement.{statement}
 use Rattle.share_sheet_c.proofs.share_sheet_row.Tie as tie
 
@@ -12,7 +12,7 @@ returns c =
     let m = c.before.before in
     let a = m.before.before in
     let says = ap outcome_of_place m.cause.given.1 in
-    (refused says c.status.ensures a.row-place.ensures.0, status-keeps (RowStands _ _) m.cause.given.0.0 _ says c.status.ensures a.row-place.ensures.1)
+    (refused says c.status.ensures a.row-place.ensures.0, status_keeps (RowStands _ _) m.cause.given.0.0 _ says c.status.ensures a.row-place.ensures.1)
 
 returns_2 : tie.Need-returns-2
 returns_2 c =

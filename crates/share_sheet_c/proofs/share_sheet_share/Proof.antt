@@ -4,7 +4,7 @@ use mathlib.Core.Path.{ap, subst}
 use Rattle.two_way.specs.TwoWay.{network_of}
 use Rattle.share_spec.specs.ShareOutcomes.{OneFair}
 use Rattle.scorer.specs.ShareAnswers.{outcome_of_share}
-use Rattle.share_sheet_c.specs.StatusLaws.{refused, status-keeps, accepted}
+use Rattle.share_sheet_c.specs.StatusLaws.{refused, status_keeps, accepted}
 use Rattle.share_sheet_c.proofs.share_sheet_share.Statement.{statement}
 use Rattle.share_sheet_c.proofs.share_sheet_share.Tie as tie
 
@@ -13,7 +13,7 @@ returns c =
     let m = c.before.before in
     let a = m.before.before in
     let says = ap outcome_of_share m.cause.given.1 in
-    (refused says c.status.ensures a.share.ensures.0, status-keeps (OneFair (network_of _) _) m.cause.given.0.0 _ says c.status.ensures a.share.ensures.1)
+    (refused says c.status.ensures a.share.ensures.0, status_keeps (OneFair (network_of _) _) m.cause.given.0.0 _ says c.status.ensures a.share.ensures.1)
 
 returns_2 : tie.Need-returns-2
 returns_2 c =

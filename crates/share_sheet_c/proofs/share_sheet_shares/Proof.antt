@@ -7,7 +7,7 @@ use Rattle.refusals.specs.Outcomes.{Outcome}
 use Rattle.two_way.specs.TwoWay.{network_of}
 use Rattle.share_spec.specs.ShareOutcomes.{AllFair}
 use Rattle.scorer.specs.ShareAnswers.{outcome_of_shares}
-use Rattle.share_sheet_c.specs.StatusLaws.{refused, status-keeps, accepted}
+use Rattle.share_sheet_c.specs.StatusLaws.{refused, status_keeps, accepted}
 use Rattle.share_sheet_c.proofs.share_sheet_shares.Statement.{statement}
 use Rattle.share_sheet_c.proofs.share_sheet_shares.Tie as tie
 
@@ -20,7 +20,7 @@ returns c =
     let m = c.before.before in
     let a = m.before.before.before.before in
     let says = ap outcome_of_shares m.cause.given.1 in
-    (refused says c.status.ensures a.shares.ensures.0, (a.shares.ensures.1.0, status-keeps (FairAs _ _ _) m.cause.given.0.0 _ says c.status.ensures a.shares.ensures.1.1))
+    (refused says c.status.ensures a.shares.ensures.0, (a.shares.ensures.1.0, status_keeps (FairAs _ _ _) m.cause.given.0.0 _ says c.status.ensures a.shares.ensures.1.1))
 
 returns_2 : tie.Need-returns-2
 returns_2 c =

@@ -10,8 +10,8 @@ use Rattle.table_spec.specs.Limits.{max_weight}
 use Rattle.game.specs.Game.{neighbour_term, Whole}
 use Rattle.game.specs.Terms.{whole_degree}
 use Rattle.share_spec.specs.TermBounds.{term_le}
-use Rattle.share_terms.specs.TermUnits.{unit-le, unit-term}
-use Rattle.share_terms.specs.RowTerms.{left-fits, row_room, terms-added}
+use Rattle.share_terms.specs.TermUnits.{unit-le, unit_term}
+use Rattle.share_terms.specs.RowTerms.{left_fits, row_room, terms_added}
 use Rattle.share_terms.proofs.add_terms.Statement.{statement}
 use Rattle.share_terms.proofs.add_terms.Tie as tie
 
@@ -27,22 +27,22 @@ module _ (c : tie.After-term) where
   whole = whole_degree _ _ _ start.pre.0.1 start.pre.0.3.divided
 
   term_is : c.term.result ≡ neighbour_term start.args.need (length start.args.row.now) start.args.over
-  term_is = c.term.ensures ∙ unit-term start.pre.0.1 start.pre.0.3.divided start.pre.0.4
+  term_is = c.term.ensures ∙ unit_term start.pre.0.1 start.pre.0.3.divided start.pre.0.4
 
   left_le : length start.args.row.now * c.term.result ≤ start.args.over
-  left_le = left-fits start.args.over start.args.need start.args.row.now whole term_is
+  left_le = left_fits start.args.over start.args.need start.args.row.now whole term_is
 
   -- a number up to L, times the weight
-  weighed-le : (x : ℕ) → x ≤ start.args.over → start.args.weight * x ≤ max_weight * start.args.over
-  weighed-le x h = mul-le-mul {n₁ = start.args.weight} {m₁ = x} {n₂ = max_weight} {m₂ = start.args.over} start.pre.0.0 h
+  weighed_le : (x : ℕ) → x ≤ start.args.over → start.args.weight * x ≤ max_weight * start.args.over
+  weighed_le x h = mul-le-mul {n₁ = start.args.weight} {m₁ = x} {n₂ = max_weight} {m₂ = start.args.over} start.pre.0.0 h
 
   -- what is left of L is one
-  left-weighed : start.args.weight * (start.args.over - length start.args.row.now * c.term.result) ≤ max_weight * start.args.over
-  left-weighed = weighed-le _ (omega arith)
+  left_weighed : start.args.weight * (start.args.over - length start.args.row.now * c.term.result) ≤ max_weight * start.args.over
+  left_weighed = weighed_le _ (omega arith)
 
   -- and so is the term
-  term-weighed : start.args.weight * c.term.result ≤ max_weight * start.args.over
-  term-weighed = weighed-le _ (omega (arith, term_is, term_le start.args.need (length start.args.row.now) start.args.over))
+  term_weighed : start.args.weight * c.term.result ≤ max_weight * start.args.over
+  term_weighed = weighed_le _ (omega (arith, term_is, term_le start.args.need (length start.args.row.now) start.args.over))
 
 sub-numerators : tie.Need-overflow-sub-numerators
 sub-numerators c = left_le c
@@ -51,14 +51,14 @@ mul-numerators : tie.Need-overflow-mul-numerators
 mul-numerators c = omega (arith, left_le c, (start c).requires.0.3.bounded)
 
 mul-numerators-2 : tie.Need-overflow-mul-numerators-2
-mul-numerators-2 c = omega (arith, left-weighed c, (start c).requires.0.3.bounded)
+mul-numerators-2 c = omega (arith, left_weighed c, (start c).requires.0.3.bounded)
 
 add-numerators : tie.Need-overflow-add-numerators
 unfolding at
-add-numerators c = omega (arith, left-weighed c.before, (start c.before).pre.1.0.1)
+add-numerators c = omega (arith, left_weighed c.before, (start c.before).pre.1.0.1)
 
 mul-give : tie.Need-overflow-mul-give
-mul-give c = omega (arith, term-weighed c.before, (start c.before).pre.0.3.bounded)
+mul-give c = omega (arith, term_weighed c.before, (start c.before).pre.0.3.bounded)
 
 give-requires : tie.Need-give-requires
 unfolding at
@@ -80,7 +80,7 @@ returns c =
     let g = c.before.before in
     let e = g.before.before.before in
     let s = start e in
-    terms-added s.args.over s.args.need s.args.row.now (whole e) (term_is e) s.args.weight s.args.bus s.args.numerators.now s.pre.1.0.0 g.give.ensures
+    terms_added s.args.over s.args.need s.args.row.now (whole e) (term_is e) s.args.weight s.args.bus s.args.numerators.now s.pre.1.0.0 g.give.ensures
 
 pub add-terms-spec : {M : Type 1} → statement M
 add-terms-spec =

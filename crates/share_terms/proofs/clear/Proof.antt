@@ -6,7 +6,7 @@ use mathlib.Core.Path.{◌≡◌, subst}
 use Prim.Native.Nat.{ℕ, ◌+◌, ◌-◌, ◌≤◌}
 use lib.ListN.{length, set, replicate, length-replicate}
 use Rattle.lists.specs.Places.{at-zeros}
-use Rattle.lists.specs.Writes.{Copied, copied_none, copied-length, copied-entry, copied_all}
+use Rattle.lists.specs.Writes.{Copied, copied_none, copied_length, copied_entry, copied_all}
 use Rattle.share_terms.proofs.clear.Statement.{statement}
 use Rattle.share_terms.proofs.clear.Tie as tie
 
@@ -28,7 +28,7 @@ module _ (c : tie.At-loop invariant-loop decreases-loop) where
   room = omega (arith, long, c.before.requires)
 
   same : length c.loop.numerators ≡ length c.before.args.numerators.now
-  same = copied-length _ _ _ c.loop.invariant room
+  same = copied_length _ _ _ c.loop.invariant room
 
 loop-holds : tie.Need-loop-init invariant-loop decreases-loop
 loop-holds c = copied_none _ _ (zeros c.args.n)
@@ -42,7 +42,7 @@ loop-again c =
     let a = v.before.args in
     subst (λ x. Copied a.numerators.now 0 (zeros a.n) (set v.loop.numerators v.loop.bus x) (v.loop.bus + 1))
     (at-zeros a.n v.loop.bus)
-    (copied-entry _ _ _ v.loop.invariant (omega arith) (room v) (omega (arith, long v)))
+    (copied_entry _ _ _ v.loop.invariant (omega arith) (room v) (omega (arith, long v)))
 
 same_length : tie.Need-same-length invariant-loop decreases-loop
 same_length c = same c.before

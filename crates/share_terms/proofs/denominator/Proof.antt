@@ -6,15 +6,15 @@ use Prim.Native.Nat.{suc, ◌+◌}
 use Rattle.lists.specs.Below.{map_below}
 use Rattle.fraction.specs.Divisors.{lcm_all}
 use Rattle.share_spec.specs.TableNetwork.{divisors_of}
-use Rattle.share_spec.specs.TableGame.{largest-le}
+use Rattle.share_spec.specs.TableGame.{largest_le}
 use Rattle.share_terms.proofs.denominator.Statement.{statement}
 use Rattle.share_terms.proofs.denominator.Tie as tie
 
 add-multiple-up-to : tie.Need-overflow-add-multiple-up-to
-add-multiple-up-to c = omega (arith, c.largest-degree.ensures, largest-le c.before.before.requires)
+add-multiple-up-to c = omega (arith, c.largest-degree.ensures, largest_le c.before.before.requires)
 
 multiple-up-to-requires : tie.Need-multiple-up-to-requires
-multiple-up-to-requires c κs = omega (arith, c.largest-degree.ensures, largest-le c.before.before.requires)
+multiple-up-to-requires c κs = omega (arith, c.largest-degree.ensures, largest_le c.before.before.requires)
 
 returns : tie.Need-returns
 unfolding divisors_of

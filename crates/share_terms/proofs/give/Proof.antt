@@ -8,7 +8,7 @@ use lib.Seq.{take_all}
 use Rattle.lists.specs.Lists.{count, at}
 use Rattle.share_terms.specs.Added.{Added}
 use Rattle.share_terms.specs.Adding.{added_none}
-use Rattle.share_terms.proofs.Giving.{next-there, next_fits, next-given}
+use Rattle.share_terms.proofs.Giving.{next_there, next_fits, next-given}
 use Rattle.share_terms.proofs.give.Statement.{statement}
 use Rattle.share_terms.proofs.give.Tie as tie
 
@@ -30,7 +30,7 @@ module _ (c : tie.After-entry invariant-loop decreases-loop) where
   s = v.before.before.before
 
   there : c.entry.result < length v.loop.numerators
-  there = next-there s.args.row.now s.args.term v.loop.k s.pre v.loop.inv.1 c.before.loop-test.true c.entry.ensures.0
+  there = next_there s.args.row.now s.args.term v.loop.k s.pre v.loop.inv.1 c.before.loop-test.true c.entry.ensures.0
 
 loop-again : tie.Need-loop-preserved invariant-loop decreases-loop
 unfolding at

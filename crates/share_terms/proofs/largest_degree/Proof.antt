@@ -6,7 +6,7 @@ use mathlib.Core.Path.{◌≡◌, refl, ap, ◌∙◌}
 use Prim.Native.Nat.{◌-◌, ◌≤◌}
 use lib.ListN.{length}
 use Rattle.lists.specs.Below.{largest_below}
-use Rattle.lists.specs.Loops.{by_end, largestBelow-rises, largestBelow-stays}
+use Rattle.lists.specs.Loops.{by_end, largest_below_rises, largest_below_stays}
 use Rattle.table_spec.specs.Layout.{degree}
 use Rattle.share_spec.specs.TableNetwork.{largest_degree}
 use Rattle.share_terms.proofs.largest_degree.Statement.{statement}
@@ -33,8 +33,8 @@ loop-again c =
     let v = c.before.before.before in
     let e = ap length c.before.neighbours.ensures in
     ⊎_elim
-    (λ w. (omega arith, w.1 ∙ largestBelow-rises _ _ v.loop.invariant.1 e w.0.taken))
-    (λ w. (omega arith, w.1 ∙ largestBelow-stays _ _ v.loop.invariant.1 e w.0.left))
+    (λ w. (omega arith, w.1 ∙ largest_below_rises _ _ v.loop.invariant.1 e w.0.taken))
+    (λ w. (omega arith, w.1 ∙ largest_below_stays _ _ v.loop.invariant.1 e w.0.left))
     c.if1.branch
 
 returns : tie.Need-returns invariant-loop decreases-loop

@@ -4,7 +4,7 @@ use native.Mathlib.Omega.{arith}
 use mathlib.Core.Path.{◌≡◌, ◌∙◌}
 use Prim.Native.Nat.{◌+◌, ◌-◌, ◌/◌, ◌≤◌}
 use Rattle.lists.specs.Loops.{by_end}
-use Rattle.share_terms.proofs.Upper.{upper, upper-start, upper-next, upper-le, upper-half}
+use Rattle.share_terms.proofs.Upper.{upper, upper_start, upper-next, upper-le, upper_half}
 use Rattle.share_terms.proofs.multiple_up_to.Statement.{statement}
 use Rattle.share_terms.proofs.multiple_up_to.Tie as tie
 
@@ -15,7 +15,7 @@ abbrev decreases-loop : tie.decreases-loop
 decreases-loop m multiple₀ k₀ multiple k = m - k
 
 loop-holds : tie.Need-loop-init invariant-loop decreases-loop
-loop-holds c = (search rules, omega arith, upper-start c.args.m)
+loop-holds c = (search rules, omega arith, upper_start c.args.m)
 
 loop-again : tie.Need-loop-preserved invariant-loop decreases-loop
 loop-again c = let v = c.before.before in (omega arith, search rules, c.lcm.ensures.0 ∙ upper-next _ v.loop.invariant.0 v.loop.invariant.2)
@@ -29,7 +29,7 @@ lcm-requires c κs =
 returns : tie.Need-returns invariant-loop decreases-loop
 returns c =
     let m = c.before.before.args.m in
-    by_end (λ k. c.before.loop.multiple ≡ upper m (k - m / 2)) c.before.loop.invariant.2 c.before.loop.invariant.1 (omega arith) ∙ upper-half m
+    by_end (λ k. c.before.loop.multiple ≡ upper m (k - m / 2)) c.before.loop.invariant.2 c.before.loop.invariant.1 (omega arith) ∙ upper_half m
 
 pub multiple-up-to-spec : {M : Type 1} → statement M
 multiple-up-to-spec =

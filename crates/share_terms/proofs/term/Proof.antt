@@ -4,7 +4,7 @@ use native.Mathlib.Omega.{arith}
 use Prim.Native.Nat.{◌+◌, ◌*◌, ◌<◌}
 use Rattle.share_spec.specs.TermBounds.{term_le}
 use Rattle.share_terms.specs.TermCases.{InCase}
-use Rattle.share_terms.specs.CaseLaws.{cases_cover, need-above-degree, need-equal-to-degree, need-one, need-between}
+use Rattle.share_terms.specs.CaseLaws.{cases_cover, need_above_degree_lem, need_equal_to_degree, need-one, need_between}
 use Rattle.share_terms.proofs.term.Statement.{statement}
 use Rattle.share_terms.proofs.term.Tie as tie
 
@@ -12,10 +12,10 @@ in_case : (c : tie.After-term-case) → InCase c.before.args.need c.before.args.
 in_case c = cases_cover c.before.requires.0 c.term-case.ensures
 
 returns : tie.Need-returns
-returns c = need-above-degree _ _ _ ((in_case c.before).above_degree c.match.keys1)
+returns c = need_above_degree_lem _ _ _ ((in_case c.before).above_degree c.match.keys1)
 
 returns_2 : tie.Need-returns-2
-returns_2 c = need-equal-to-degree _ _ _ c.before.before.requires.0 ((in_case c.before).equal_to_degree c.match.keys2) (omega arith)
+returns_2 c = need_equal_to_degree _ _ _ c.before.before.requires.0 ((in_case c.before).equal_to_degree c.match.keys2) (omega arith)
 
 returns-3 : tie.Need-returns-3
 returns-3 c = let o = (in_case c.before).one c.match.keys3 in need-one _ _ _ (omega (arith, o)) o.0 (omega arith)
@@ -27,7 +27,7 @@ sub-result : tie.Need-overflow-sub-result
 sub-result c = omega (arith, between c)
 
 returns-4 : tie.Need-returns-4
-returns-4 c = let b = between c in need-between _ _ _ b.0 b.1 (omega arith)
+returns-4 c = let b = between c in need_between _ _ _ b.0 b.1 (omega arith)
 
 mul-result-2 : tie.Need-overflow-mul-result-2
 mul-result-2 c =

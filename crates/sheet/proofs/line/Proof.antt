@@ -9,8 +9,8 @@ use Rattle.lists.specs.Tests.{passed, failed}
 use Rattle.lists.specs.Writes.{written_front}
 use Rattle.refusals.specs.Due.{below, not-below}
 use Rattle.table_spec.specs.Holds.{holds}
-use Rattle.table_spec.specs.Facts.{holds-facts}
-use Rattle.table_spec.specs.TableCauses.{no-network, on-held}
+use Rattle.table_spec.specs.Facts.{holds_facts}
+use Rattle.table_spec.specs.TableCauses.{no_network, on_held}
 use Rattle.two_way.specs.TwoWay.{network_of}
 use Rattle.sheet.specs.Sheet.{sheet_line}
 use Rattle.sheet.specs.LineRoom.{longest_line}
@@ -25,20 +25,20 @@ held c = passed c.before.holds.ensures c.if1.false
 returns : tie.Need-returns
 returns c =
     let a = c.before.before.before.before.args in
-    line_due (network_of a.table.now) a.i a.out.now (no-network (failed c.before.holds.ensures c.if1.true))
+    line_due (network_of a.table.now) a.i a.out.now (no_network (failed c.before.holds.ensures c.if1.true))
 
 bus-count-requires : tie.Need-bus-count-requires
-bus-count-requires c κs = let z = (holds-facts _ (held c)).shape.complete in omega arith
+bus-count-requires c κs = let z = (holds_facts _ (held c)).shape.complete in omega arith
 
 returns_2 : tie.Need-returns-2
 returns_2 c =
     let a = c.before.before.before.before.before.before.args in
-    line_due (network_of a.table.now) a.i a.out.now (on-held (held c.before.before) (below c.before.bus-count.ensures.0 refl c.if2.true))
+    line_due (network_of a.table.now) a.i a.out.now (on_held (held c.before.before) (below c.before.bus-count.ensures.0 refl c.if2.true))
 
 write-line-requires : tie.Need-write-line-requires
 write-line-requires c κs =
     let e = c.before in
-    (holds-facts _ (held e.before.before), omega (arith, e.before.bus-count.ensures.0, e.if2.false), omega (arith, length-replicate {A = ℕ} longest_line 0))
+    (holds_facts _ (held e.before.before), omega (arith, e.before.bus-count.ensures.0, e.if2.false), omega (arith, length-replicate {A = ℕ} longest_line 0))
 
 -- the line was written aside
 aside : (c : tie.After-write-line) → let a = c.before.before.before.before.before.before.before.before.args in
@@ -55,7 +55,7 @@ returns-3 c =
     let e = w.before.before in
     let a = e.before.before.before.before.before.before.args in
     line_due (network_of a.table.now) a.i a.out.now
-    (on-held (held e.before.before) (not-below e.before.bus-count.ensures.0 refl e.if2.false (due_text _ _ (aside w) p.copy-text.ensures)))
+    (on_held (held e.before.before) (not-below e.before.bus-count.ensures.0 refl e.if2.false (due_text _ _ (aside w) p.copy-text.ensures)))
 
 pub line-spec : {M : Type 1} → statement M
 line-spec =

@@ -6,16 +6,16 @@ use mathlib.Core.Path.{◌≡◌, ap}
 use Prim.Native.Nat.{suc}
 use lib.ListN.{length}
 use Rattle.text.specs.Text.{filled}
-use Rattle.share_spec.specs.TableGame.{own-pos}
+use Rattle.share_spec.specs.TableGame.{own_pos}
 use Rattle.two_way.specs.TwoWay.{network_of}
 use Rattle.sheet.specs.Sheet.{bus_form, sheet_line}
 use Rattle.sheet.specs.LineFits.{held_short}
-use Rattle.sheet.specs.LineWriting.{bus_read, line-room, line-written}
+use Rattle.sheet.specs.LineWriting.{bus_read, line_room, line-written}
 use Rattle.sheet.proofs.write_bus.Statement.{statement}
 use Rattle.sheet.proofs.write_bus.Tie as tie
 
 reduce-requires : tie.Need-reduce-requires
-reduce-requires c κs = let s = c.before.before.before.before in omega (arith, own-pos s.requires.0.0.shape, s.requires.1.0)
+reduce-requires c κs = let s = c.before.before.before.before in omega (arith, own_pos s.requires.0.0.shape, s.requires.1.0)
 
 -- the text that is filled in is the line of the bus
 module _ (c : tie.After-reduce) where
@@ -40,7 +40,7 @@ fill-template-requires : tie.Need-fill-template-requires
 fill-template-requires c κs =
     let r = c.before.before.before in
     let s = start r in
-    (omega arith, line-room (held_short s.pre.0.0) s.pre.0.1 (text r) s.args.at s.pre.0.2)
+    (omega arith, line_room (held_short s.pre.0.0) s.pre.0.1 (text r) s.args.at s.pre.0.2)
 
 pub write-bus-spec : {M : Type 1} → statement M
 write-bus-spec =

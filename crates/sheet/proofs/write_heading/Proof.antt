@@ -8,7 +8,7 @@ use Rattle.text.specs.Text.{filled}
 use Rattle.two_way.specs.TwoWay.{network_of}
 use Rattle.sheet.specs.Sheet.{heading_form, sheet_line}
 use Rattle.sheet.specs.LineFits.{held_short}
-use Rattle.sheet.specs.LineWriting.{heading_read, line-room, line-written}
+use Rattle.sheet.specs.LineWriting.{heading_read, line_room, line-written}
 use Rattle.sheet.proofs.write_heading.Statement.{statement}
 use Rattle.sheet.proofs.write_heading.Tie as tie
 
@@ -31,7 +31,7 @@ fill-template-requires : tie.Need-fill-template-requires
 fill-template-requires c κs =
     let l = c.before.before.before in
     let s = start l in
-    (omega arith, line-room (held_short s.pre.0) zero-le (text l) s.args.at s.pre.2)
+    (omega arith, line_room (held_short s.pre.0) zero-le (text l) s.args.at s.pre.2)
 
 pub write-heading-spec : {M : Type 1} → statement M
 write-heading-spec =

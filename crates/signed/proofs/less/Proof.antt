@@ -1,6 +1,6 @@
 -- `signed::less` meets its contract.
 use borrow.Author.Rules.{rules}
-use Rattle.signed.specs.SignedBits.{less-fits, less-read}
+use Rattle.signed.specs.SignedBits.{less_fits, less_read}
 use Rattle.signed.proofs.less.Statement.{statement}
 use Rattle.signed.proofs.less.Tie as tie
 
@@ -10,5 +10,5 @@ less-spec =
     (tie.spec
     (λ c. search rules)
     (λ c. search rules)
-    (λ c. less-fits _ _ c.requires.0 c.requires.1)
-    (λ c. less-read _ _ c.requires.0 c.requires.1))
+    (λ c. less_fits _ _ c.requires.0 c.requires.1)
+    (λ c. less_read _ _ c.requires.0 c.requires.1))

@@ -5,7 +5,7 @@ use mathlib.Core.Logic.{⊎_elim}
 use mathlib.Core.Path.{◌≡◌}
 use Prim.Native.Nat.{◌<◌}
 use Rattle.lists.specs.Lists.{at}
-use Rattle.sorted_row.proofs.Placing.{is-present, in_taken, is-full, is-added}
+use Rattle.sorted_row.proofs.Placing.{is_present, in_taken, is_full, is_added_lem}
 use Rattle.sorted_row.proofs.insert.Statement.{statement}
 use Rattle.sorted_row.proofs.insert.Tie as tie
 
@@ -19,11 +19,11 @@ absent c l e = ⊎_elim (λ w. w.2.left e) (λ w. omega (arith, w.left)) c.if1.b
 
 returns : tie.Need-returns
 unfolding at
-returns c = is-present _ _ _ _ c.before.before.before.before.before.before.requires.0 c.before.before.if1.true c.if2.true
+returns c = is_present _ _ _ _ c.before.before.before.before.before.before.requires.0 c.before.before.if1.true c.if2.true
 
 returns_2 : tie.Need-returns-2
 returns_2 c =
-    let s = start c.before in is-full _ _ _ _ s.pre.0 c.before.before.insertion-place.ensures s.pre.1 (absent c.before) (omega (arith, c.if3.true))
+    let s = start c.before in is_full _ _ _ _ s.pre.0 c.before.before.insertion-place.ensures s.pre.1 (absent c.before) (omega (arith, c.if3.true))
 
 shift-in-requires : tie.Need-shift-in-requires
 shift-in-requires c κs =
@@ -34,7 +34,7 @@ returns-3 c =
     let e = c.before.before.before.before in
     let j = e.before in
     let s = start j in
-    is-added _ _ _ _ s.pre.0 j.before.insertion-place.ensures s.pre.1 (absent j) e.if3.false c.before.before.shift_in.ensures
+    is_added_lem _ _ _ _ s.pre.0 j.before.insertion-place.ensures s.pre.1 (absent j) e.if3.false c.before.before.shift_in.ensures
 
 pub insert-spec : {M : Type 1} → statement M
 insert-spec =

@@ -9,7 +9,7 @@ use lib.ListN.{length}
 use Rattle.lists.specs.Lists.{at}
 use Rattle.lists.specs.Below.{all_below}
 use Rattle.lists.specs.Tests.{fails, passed, failed, never_both, and_fails_left, and_both, and_right}
-use Rattle.lists.specs.Loops.{all_below_start, allBelow-more, allBelow-fails, allBelow-done}
+use Rattle.lists.specs.Loops.{all_below_start, all_below_more, all_below_fails, all_below_done}
 use Rattle.table_spec.specs.Limits.{max_need, max_weight}
 use Rattle.table_spec.specs.Layout.{row_size}
 use Rattle.table_spec.specs.Holds.{within, in_range, needs_in_range, weights_in_range, can_be_met, needs_can_be_met}
@@ -32,7 +32,7 @@ need_tested c = c.within.ensures ∙ ap (within 1 max_need) c.before.entry.ensur
 
 returns : tie.Need-returns invariant-loop decreases-loop
 unfolding in_range
-returns c = sym (and_fails_left _ _ (and_fails_left _ _ (allBelow-fails _ _ _ c.before.before.before.loop-test.true (failed (need_tested c.before) c.if1.true))))
+returns c = sym (and_fails_left _ _ (and_fails_left _ _ (all_below_fails _ _ _ c.before.before.before.loop-test.true (failed (need_tested c.before) c.if1.true))))
 
 -- so was the weight
 weight_tested : (c : tie.After-within2 invariant-loop decreases-loop) → let v = c.before.before.before.before.before.before in c.within2.result ≡ within 1 max_weight (at v.before.before.before.before.args.weights.now v.loop.bus)
@@ -41,7 +41,7 @@ weight_tested c = c.within2.ensures ∙ ap (within 1 max_weight) c.before.entry2
 wrong_weight : (q w : List ℕ) (b : Bool) {i : ℕ} → i < length w → within 1 max_weight (at w i) ≡ false → false ≡ (needs_in_range q && weights_in_range w && b)
 unfolding in_range
 wrong_weight q w b {i} l h =
-    sym (and_fails_left (needs_in_range q && weights_in_range w) b (fails _ (λ t. never_both (and_right (needs_in_range q) (weights_in_range w) t) (allBelow-fails _ (length w) i l h))))
+    sym (and_fails_left (needs_in_range q && weights_in_range w) b (fails _ (λ t. never_both (and_right (needs_in_range q) (weights_in_range w) t) (all_below_fails _ (length w) i l h))))
 
 returns_2 : tie.Need-returns-2 invariant-loop decreases-loop
 returns_2 c =
@@ -60,21 +60,21 @@ met c =
     c.can-be-met.ensures ∙ ap₂ can_be_met e.before.before.before.before.before.before.entry.ensures.0 (ap₂ ◌-◌ e.entry3.ensures.0 c.before.entry4.ensures.0)
 
 returns-3 : tie.Need-returns-3 invariant-loop decreases-loop
-returns-3 c = sym (fails _ (λ h. never_both (and_right (needs_in_range _ && weights_in_range _) _ h) (allBelow-fails _ _ _ c.before.before.before.before.before.before.before.before.before.before.loop-test.true (failed (met c.before) c.if3.true))))
+returns-3 c = sym (fails _ (λ h. never_both (and_right (needs_in_range _ && weights_in_range _) _ h) (all_below_fails _ _ _ c.before.before.before.before.before.before.before.before.before.before.loop-test.true (failed (met c.before) c.if3.true))))
 
 loop-again : tie.Need-loop-preserved invariant-loop decreases-loop
 loop-again c =
     let o = c.before.before.before.before in
     let p = o.before.before.before in
     let inv = p.before.before.before.before.loop.invariant in
-    (search rules, allBelow-more _ _ inv.1 (passed (need_tested p.before) p.if1.false), allBelow-more _ _ inv.2 (passed (weight_tested o.before) o.if2.false), allBelow-more _ _ inv.3 (passed (met c.before) c.if3.false))
+    (search rules, all_below_more _ _ inv.1 (passed (need_tested p.before) p.if1.false), all_below_more _ _ inv.2 (passed (weight_tested o.before) o.if2.false), all_below_more _ _ inv.3 (passed (met c.before) c.if3.false))
 
 returns-4 : tie.Need-returns-4 invariant-loop decreases-loop
 unfolding in_range
 returns-4 c =
     let inv = c.before.loop.invariant in
     let end = c.loop-test.false in
-    sym (and_both _ _ (and_both _ _ (allBelow-done _ _ _ inv.1 inv.0 end) (allBelow-done _ _ _ inv.2 (omega arith) (omega arith))) (allBelow-done _ _ _ inv.3 inv.0 end))
+    sym (and_both _ _ (and_both _ _ (all_below_done _ _ _ inv.1 inv.0 end) (all_below_done _ _ _ inv.2 (omega arith) (omega arith))) (all_below_done _ _ _ inv.3 inv.0 end))
 
 pub valid-buses-spec : {M : Type 1} → statement M
 valid-buses-spec =

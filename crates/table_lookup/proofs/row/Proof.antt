@@ -3,7 +3,7 @@ use borrow.Author.Rules.{rules}
 use native.Mathlib.Omega.{arith}
 use mathlib.Core.Path.{◌≡◌, sym, ap, subst, ◌∙◌}
 use Rattle.lists.specs.Places.{part_from}
-use Rattle.refusals.specs.Outcomes.{valuesOr}
+use Rattle.refusals.specs.Outcomes.{values_or}
 use Rattle.refusals.specs.Causes.{part_of, part-answered}
 use Rattle.table_spec.specs.Layout.{bus_count}
 use Rattle.table_spec.specs.Holds.{holds}
@@ -18,10 +18,10 @@ module _ (c : tie.After-row-place) {r : RowPlace} (e : c.row-place.result ≡ r)
   stands : let a = c.before.before.args in RowStands a.table.now a.bus (outcome_of_place r)
   stands = subst (RowStands _ _) (ap outcome_of_place e) c.row-place.ensures.1
 
-  before : let a = c.before.before.args in row_before a.table.now a.bus ≡ valuesOr 0 (part_of (λ w. w.0) (outcome_of_place r))
+  before : let a = c.before.before.args in row_before a.table.now a.bus ≡ values_or 0 (part_of (λ w. w.0) (outcome_of_place r))
   before =
       let t = c.before.before.args.table.now in
-      sym (ap (valuesOr 0) (part-answered (λ w. w.0) (bus_causes (holds t) (bus_count t) c.before.before.args.bus) _ (sym (ap outcome_of_place e) ∙ c.row-place.ensures.0)))
+      sym (ap (values_or 0) (part-answered (λ w. w.0) (bus_causes (holds t) (bus_count t) c.before.before.args.bus) _ (sym (ap outcome_of_place e) ∙ c.row-place.ensures.0)))
 
 part-requires-2 : tie.Need-part-requires-2
 part-requires-2 c κs = (stands c.before.before.before c.before.start.given.1).0

@@ -9,8 +9,8 @@ use Rattle.lists.specs.Tests.{passed, failed}
 use Rattle.refusals.specs.Due.{accept}
 use Rattle.table_spec.specs.Layout.{bus_count}
 use Rattle.table_spec.specs.Holds.{holds, Scorable}
-use Rattle.table_spec.specs.Facts.{holds-facts}
-use Rattle.table_spec.specs.TableCauses.{no-network, on-held, no-bus, on-bus}
+use Rattle.table_spec.specs.Facts.{holds_facts}
+use Rattle.table_spec.specs.TableCauses.{no_network, on_held, no_bus, on_bus}
 use Rattle.table_spec.specs.RowPlaces.{placed}
 use Rattle.table_lookup.proofs.row_place.Statement.{statement}
 use Rattle.table_lookup.proofs.row_place.Tie as tie
@@ -21,27 +21,27 @@ held c = passed c.before.holds.ensures c.if1.false
 
 -- which has the bus
 has_bus : (c : tie.Else2) → let a = c.before.before.before.before.before.args in Scorable a.table.now × (a.bus < bus_count a.table.now)
-has_bus c = ((holds-facts _ (held c.before.before)).shape, omega (arith, c.before.bus-count.ensures.0, c.if2.false))
+has_bus c = ((holds_facts _ (held c.before.before)).shape, omega (arith, c.before.bus-count.ensures.0, c.if2.false))
 
 returns : tie.Need-returns
 returns c =
     let a = c.before.before.before.args in
-    placed a.table.now a.bus (no-network (failed c.before.holds.ensures c.if1.true))
+    placed a.table.now a.bus (no_network (failed c.before.holds.ensures c.if1.true))
 
 bus-count-requires : tie.Need-bus-count-requires
-bus-count-requires c κs = let z = (holds-facts _ (held c)).shape.complete in omega arith
+bus-count-requires c κs = let z = (holds_facts _ (held c)).shape.complete in omega arith
 
 returns_2 : tie.Need-returns-2
 returns_2 c =
     let a = c.before.before.before.before.before.args in
-    placed a.table.now a.bus (on-held (held c.before.before) (no-bus c.before.bus-count.ensures.0 c.if2.true))
+    placed a.table.now a.bus (on_held (held c.before.before) (no_bus c.before.bus-count.ensures.0 c.if2.true))
 
 returns-3 : tie.Need-returns-3
 returns-3 c =
     let e = c.before.before in
     let a = e.before.before.before.before.before.args in
     placed a.table.now a.bus
-    (on-held (held e.before.before) (on-bus e.before.bus-count.ensures.0 e.if2.false (accept (ap₂ (λ start many. (start, many)) c.before.row-start.ensures (ap length c.neighbours.ensures)) refl)))
+    (on_held (held e.before.before) (on_bus e.before.bus-count.ensures.0 e.if2.false (accept (ap₂ (λ start many. (start, many)) c.before.row-start.ensures (ap length c.neighbours.ensures)) refl)))
 
 row-start-requires : tie.Need-row-start-requires
 row-start-requires c κs = has_bus c

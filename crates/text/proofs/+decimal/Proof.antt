@@ -5,7 +5,7 @@ use mathlib.Core.Path.{◌≡◌, sym, ap, ◌∙◌}
 use Prim.Native.Nat.{ℕ, ◌+◌, ◌/◌, ◌<◌}
 use lib.ListN.{length}
 use Rattle.lists.specs.Lists.{put}
-use Rattle.lists.specs.Writes.{stored-entry, written_entry}
+use Rattle.lists.specs.Writes.{stored_entry, written_entry}
 use Rattle.text.specs.Text.{decimal}
 use Rattle.text.specs.Decimal.{decimal_small, decimal-large, length_small, length-large}
 use borrow.Fn.Kinds.{In}
@@ -54,7 +54,7 @@ returns_2 t c =
     let s = d.before.before.before.before in
     let a = s.args in (
       omega (arith, large d, d.decimal.ensures.0),
-      stored-entry a.out.now a.at (decimal (a.value / 10)) d.decimal.ensures.1 d.decimal.ensures.0 _
+      stored_entry a.out.now a.at (decimal (a.value / 10)) d.decimal.ensures.1 d.decimal.ensures.0 _
           (omega (arith, s.requires.1, large d, d.decimal.ensures.0))
           ∙ ap (put a.out.now a.at) (sym (decimal-large a.value (omega arith))),
     )

@@ -8,9 +8,9 @@ use Prim.Native.Nat.{◌+◌, ◌-◌, ◌≤◌, ◌<◌}
 use lib.ListN.{length, take}
 use lib.Seq.{take_all}
 use Rattle.lists.specs.Lists.{at, count, put}
-use Rattle.lists.specs.Writes.{put-none, stored-length, stored-entry, stored-list}
+use Rattle.lists.specs.Writes.{put-none, stored-length, stored_entry, stored_list}
 use Rattle.text.specs.Text.{decimal, sign, filled}
-use Rattle.text.specs.Templates.{filled-le, Step, sign-step, sign-there, byte_step}
+use Rattle.text.specs.Templates.{filled-le, Step, sign_step, sign_there, byte_step}
 use Rattle.text.proofs.fill_template.Statement.{statement}
 use Rattle.text.proofs.fill_template.Tie as tie
 
@@ -36,14 +36,14 @@ size v =
 signed : (c : tie.Then1 invariant-loop decreases-loop) → let v = c.before.before.before in let a = v.before.before.before.before.args in
     Step a.template.now a.values.now v.loop.k (decimal (at a.values.now v.loop.next)) (v.loop.next + 1)
 unfolding at
-signed c = let v = c.before.before.before in sign-step _ _ _ v.loop.invariant.1 (omega arith) refl c.if1.true
+signed c = let v = c.before.before.before in sign_step _ _ _ v.loop.invariant.1 (omega arith) refl c.if1.true
 
 there : (c : tie.Then1 invariant-loop decreases-loop) → let v = c.before.before.before in v.loop.next < length v.before.before.before.before.args.values.now
 unfolding at
 there c =
     let v = c.before.before.before in
     let a = v.before.before.before.before.args in
-    sign-there a.template.now a.values.now v.loop.k v.loop.invariant.1 (omega arith) refl c.if1.true v.before.before.before.before.requires.0
+    sign_there a.template.now a.values.now v.loop.k v.loop.invariant.1 (omega arith) refl c.if1.true v.before.before.before.before.requires.0
 
 -- it is another
 plain : (c : tie.Else1 invariant-loop decreases-loop) → let v = c.before.before.before in let a = v.before.before.before.before.args in
@@ -78,14 +78,14 @@ loop-again c =
       omega arith,
       w.8 ∙ z.next,
       omega (arith, w.7, w.3.ensures.0, v.loop.invariant.2, z.bytes),
-      w.6 ∙ w.3.ensures.1 ∙ stored-list _ _ _ v.loop.invariant.3 v.loop.invariant.2 _ (omega (arith, s.requires.1)) ∙ ap (put _ _) (sym z.text),
+      w.6 ∙ w.3.ensures.1 ∙ stored_list _ _ _ v.loop.invariant.3 v.loop.invariant.2 _ (omega (arith, s.requires.1)) ∙ ap (put _ _) (sym z.text),
     ))
     (λ w.
     let z = plain (record { before = c.before; if1 = w.0 }) in (
       omega arith,
       w.3 ∙ z.next,
       omega (arith, w.2, v.loop.invariant.2, z.bytes),
-      w.1 ∙ stored-entry _ _ _ v.loop.invariant.3 v.loop.invariant.2 _ (omega (arith, s.requires.1, v.loop.invariant.2, z.room)) ∙ ap (put _ _) (sym z.text),
+      w.1 ∙ stored_entry _ _ _ v.loop.invariant.3 v.loop.invariant.2 _ (omega (arith, s.requires.1, v.loop.invariant.2, z.room)) ∙ ap (put _ _) (sym z.text),
     ))
     c.if1.branch
 

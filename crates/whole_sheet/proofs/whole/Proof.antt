@@ -8,8 +8,8 @@ use lib.ListN.{length, take, replicate, length-replicate}
 use Rattle.lists.specs.Tests.{passed, failed}
 use Rattle.lists.specs.Writes.{written_front}
 use Rattle.table_spec.specs.Holds.{holds}
-use Rattle.table_spec.specs.Facts.{holds-facts}
-use Rattle.table_spec.specs.TableCauses.{on-held}
+use Rattle.table_spec.specs.Facts.{holds_facts}
+use Rattle.table_spec.specs.TableCauses.{on_held}
 use Rattle.two_way.specs.TwoWay.{network_of}
 use Rattle.sheet.specs.LineDue.{due_text}
 use Rattle.whole_sheet.specs.WholeSheet.{whole_sheet}
@@ -23,7 +23,7 @@ held : (c : tie.Else1) → holds c.before.before.before.before.args.table.now �
 held c = passed c.before.holds.ensures c.if1.false
 
 write-sheet-requires : tie.Need-write-sheet-requires
-write-sheet-requires c κs = (holds-facts _ (held c.before), omega (arith, length-replicate {A = ℕ} longest_sheet 0))
+write-sheet-requires c κs = (holds_facts _ (held c.before), omega (arith, length-replicate {A = ℕ} longest_sheet 0))
 
 -- the sheet was written aside
 aside : (c : tie.After-write-sheet) → take c.write-sheet.result c.write-sheet.new.1.0 ≡ whole_sheet (network_of c.before.before.before.before.before.before.args.table.now)
@@ -40,7 +40,7 @@ returns_2 c =
     let p = c.before.before in
     let w = p.before.before.before.before in
     let a = w.before.before.before.before.before.before.args in
-    sheet_due (network_of a.table.now) a.out.now (on-held (held w.before.before) (due_text _ _ (aside w) p.copy-text.ensures))
+    sheet_due (network_of a.table.now) a.out.now (on_held (held w.before.before) (due_text _ _ (aside w) p.copy-text.ensures))
 
 pub whole-spec : {M : Type 1} → statement M
 whole-spec =

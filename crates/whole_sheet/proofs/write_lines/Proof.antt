@@ -42,15 +42,15 @@ module _ (v : tie.At-loop invariant-loop decreases-loop) where
   bounded : headed.before.before.bus-count.result ≤ max_buses
   bounded = omega (arith, headed.before.before.bus-count.ensures.0, start.pre.0.shape.complete.most)
 
-  headed-kept : length headed.write-heading.last.1.1.0 ≡ length start.args.out.now
-  headed-kept =
+  headed_kept : length headed.write-heading.last.1.1.0 ≡ length start.args.out.now
+  headed_kept =
       let h = headed.write-heading.ensures in
       stored-length start.args.out.now 0 (sheet_line (network_of start.args.table.now) 0) h.0.1 h.0.0 (omega (arith, h.1, start.pre.2))
 
   kept : length v.loop.out ≡ length start.args.out.now
   kept =
-      stored-length _ _ _ v.loop.inv.1.1 v.loop.inv.1.0 (omega (arith, headed.write-heading.ensures.1, v.loop.inv.2, v.loop.inv.0, bounded, start.pre.2, headed-kept))
-      ∙ headed-kept
+      stored-length _ _ _ v.loop.inv.1.1 v.loop.inv.1.0 (omega (arith, headed.write-heading.ensures.1, v.loop.inv.2, v.loop.inv.0, bounded, start.pre.2, headed_kept))
+      ∙ headed_kept
 
 shared-slice-read-write-bus : tie.Need-shared-slice-read-write-bus invariant-loop decreases-loop
 shared-slice-read-write-bus c =
@@ -73,7 +73,7 @@ loop-again c =
     let w = c.before.before in
     let v = w.before.before.before.before in (
       search rules,
-      written_next _ _ _ v.loop.invariant.1 (omega (arith, (headed v).write-heading.ensures.1, headed-kept v, (start v).requires.2)) refl w.write-bus.ensures.0,
+      written_next _ _ _ v.loop.invariant.1 (omega (arith, (headed v).write-heading.ensures.1, headed_kept v, (start v).requires.2)) refl w.write-bus.ensures.0,
       omega (arith, w.write-bus.ensures.1, v.loop.invariant.2),
     )
 

@@ -8,7 +8,7 @@ use lib.Dec.{eqb}
 use lib.ListN.{length}
 use Rattle.lists.specs.Lists.{at}
 use Rattle.lists.specs.Below.{all_below}
-use Rattle.lists.specs.Loops.{all_below_start, allBelow-more, allBelow-fails, allBelow-done}
+use Rattle.lists.specs.Loops.{all_below_start, all_below_more, all_below_fails, all_below_done}
 use Rattle.write_spec.specs.FileOf.{all_ones}
 use Rattle.writer.proofs.all_ones.Statement.{statement}
 use Rattle.writer.proofs.all_ones.Tie as tie
@@ -25,16 +25,16 @@ loop-holds c = (search rules, all_below_start _)
 returns : tie.Need-returns invariant-loop decreases-loop
 unfolding all_ones
 returns c =
-    let p = c.before in sym (allBelow-fails _ _ _ p.before.loop-test.true (ne_eqb _ 1 (λ e. c.if1.true (p.entry.ensures.0 ∙ e))))
+    let p = c.before in sym (all_below_fails _ _ _ p.before.loop-test.true (ne_eqb _ 1 (λ e. c.if1.true (p.entry.ensures.0 ∙ e))))
 
 loop-again : tie.Need-loop-preserved invariant-loop decreases-loop
 loop-again c =
     let p = c.before in
-    (search rules, allBelow-more _ _ p.before.before.loop.invariant.1 (eq-eqb _ 1 (sym p.entry.ensures.0 ∙ c.if1.false)))
+    (search rules, all_below_more _ _ p.before.before.loop.invariant.1 (eq-eqb _ 1 (sym p.entry.ensures.0 ∙ c.if1.false)))
 
 returns_2 : tie.Need-returns-2 invariant-loop decreases-loop
 unfolding all_ones
-returns_2 c = sym (allBelow-done _ _ _ c.before.loop.invariant.1 c.before.loop.invariant.0 c.loop-test.false)
+returns_2 c = sym (all_below_done _ _ _ c.before.loop.invariant.1 c.before.loop.invariant.0 c.loop-test.false)
 
 pub all-ones-spec : {M : Type 1} → statement M
 all-ones-spec =

@@ -8,15 +8,15 @@ use Rattle.lists.specs.Tests.{passed, failed}
 use Rattle.refusals.specs.Due.{accept, below, not-below}
 use Rattle.table_spec.specs.Layout.{weights}
 use Rattle.table_spec.specs.Holds.{holds, Holds}
-use Rattle.table_spec.specs.Facts.{holds-facts}
-use Rattle.table_spec.specs.TableCauses.{no-network, on-held}
+use Rattle.table_spec.specs.Facts.{holds_facts}
+use Rattle.table_spec.specs.TableCauses.{no_network, on_held}
 use Rattle.write_spec.specs.FileOf.{all_ones}
 use Rattle.write_spec.specs.WriteDue.{write_due}
 use Rattle.writer.proofs.write.Statement.{statement}
 use Rattle.writer.proofs.write.Tie as tie
 
 returns : tie.Need-returns
-returns c = write_due _ _ (no-network (failed c.before.holds.ensures c.if1.true))
+returns c = write_due _ _ (no_network (failed c.before.holds.ensures c.if1.true))
 
 -- the slice holds a network
 module _ (c : tie.Else1) where
@@ -24,7 +24,7 @@ module _ (c : tie.Else1) where
   passes = passed c.before.holds.ensures c.if1.false
 
   held : Holds c.before.before.before.before.args.table.now
-  held = holds-facts _ passes
+  held = holds_facts _ passes
 
 weights-requires : tie.Need-weights-requires
 weights-requires c κs = let z = (held c).shape.complete in omega arith
@@ -38,7 +38,7 @@ byte-count-requires c κs = (held c.before.before, ones c)
 
 returns_2 : tie.Need-returns-2
 returns_2 c =
-    let v = c.before in write_due _ _ (on-held (passes v.before.before.before) (below refl v.byte-count.ensures c.if2.true))
+    let v = c.before in write_due _ _ (on_held (passes v.before.before.before) (below refl v.byte-count.ensures c.if2.true))
 
 write-file-requires : tie.Need-write-file-requires
 write-file-requires c κs =
@@ -50,7 +50,7 @@ returns-3 c =
     let e = w.before.before in
     let v = e.before in
     let f = w.write-file.ensures in
-    write_due _ _ (on-held (passes v.before.before.before) (not-below refl v.byte-count.ensures e.if2.false (accept (f.0 ∙ zero-add _) f.1)))
+    write_due _ _ (on_held (passes v.before.before.before) (not-below refl v.byte-count.ensures e.if2.false (accept (f.0 ∙ zero-add _) f.1)))
 
 pub write_spec : {M : Type 1} → statement M
 write_spec =

@@ -6,14 +6,14 @@ use lib.ListN.{length}
 use Rattle.table_spec.specs.Layout.{weights}
 use Rattle.table_spec.specs.Rows.{length-weights}
 use Rattle.write_spec.specs.FileOf.{all_ones, weight_section}
-use Rattle.write_spec.specs.PairLaws.{length-fileOf}
+use Rattle.write_spec.specs.PairLaws.{length-file_of}
 use Rattle.writer.proofs.FileWriting.{length-front_of, file-written}
 use Rattle.writer.proofs.write_file.Statement.{statement}
 use Rattle.writer.proofs.write_file.Tie as tie
 
 write-front-requires : tie.Need-write-front-requires
 write-front-requires c κs =
-    let s = c.before.before.before in (s.requires.0, omega (arith, s.requires.2, length-fileOf _ s.requires.0, length-front_of _ s.requires.0))
+    let s = c.before.before.before in (s.requires.0, omega (arith, s.requires.2, length-file_of _ s.requires.0, length-front_of _ s.requires.0))
 
 -- the weights were read, behind the front of the file
 write-section-requires : tie.Need-write-section-requires
@@ -24,7 +24,7 @@ write-section-requires c κs =
     let held = s.requires.0 in (
       s.requires.1 ∙ ap all_ones (sym e),
       omega (arith, ap length e, length-weights _ held.shape.complete, held.shape.complete.most),
-      omega (arith, p.write-front.ensures.0, p.write-front.auto.1.0, ap (λ l. length (weight_section l)) e, length-fileOf _ held, length-front_of _ held, s.requires.2),
+      omega (arith, p.write-front.ensures.0, p.write-front.auto.1.0, ap (λ l. length (weight_section l)) e, length-file_of _ held, length-front_of _ held, s.requires.2),
     )
 
 returns : tie.Need-returns

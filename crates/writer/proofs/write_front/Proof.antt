@@ -10,7 +10,7 @@ use Rattle.table_spec.specs.Rows.{length-needs}
 use Rattle.table_spec.specs.Facts.{holds-needs}
 use Rattle.table_spec.specs.LineCount.{lines-le}
 use Rattle.write_spec.specs.FileOf.{word}
-use Rattle.write_spec.specs.PairLaws.{length-pairRecords}
+use Rattle.write_spec.specs.PairLaws.{length-pair_records}
 use Rattle.writer.proofs.FileWriting.{length-front_of, front_written}
 use Rattle.writer.proofs.write_front.Statement.{statement}
 use Rattle.writer.proofs.write_front.Tie as tie
@@ -24,12 +24,12 @@ module _ (c : tie.After-write-word) where
   abbrev start : tie.Start
   start = c.before.before.before.before.before
 
-  needs-place : c.write_word.result ≡ 2
+  needs_place : c.write_word.result ≡ 2
   unfolding word
-  needs-place = c.write_word.ensures.0
+  needs_place = c.write_word.ensures.0
 
-  rest-fits : let t = start.args.table.now in 2 + bus_count t + 2 + 4 * lines t ≤ length c.write_word.new.1.0
-  rest-fits = omega (arith, c.write_word.auto.1.0, length-front_of _ start.pre.0, start.pre.1)
+  rest_fits : let t = start.args.table.now in 2 + bus_count t + 2 + 4 * lines t ≤ length c.write_word.new.1.0
+  rest_fits = omega (arith, c.write_word.auto.1.0, length-front_of _ start.pre.0, start.pre.1)
 
 -- the needs were read
 needs-counted : (c : tie.After-needs) → length c.needs.result.now ≡ bus_count (start c.before.before.before).args.table.now
@@ -38,21 +38,21 @@ needs-counted c = ap length c.needs.ensures ∙ length-needs _ (start c.before.b
 write-needs-requires : tie.Need-write-needs-requires
 write-needs-requires c κs =
     let w = c.before.before.before.before in
-    (subst NeedsInRange (sym c.before.needs.ensures) (holds-needs _ (start w).requires.0), omega (arith, needs-place w, rest-fits w, needs-counted c.before))
+    (subst NeedsInRange (sym c.before.needs.ensures) (holds-needs _ (start w).requires.0), omega (arith, needs_place w, rest_fits w, needs-counted c.before))
 
 -- they are written: the number of lines follows behind them
 module _ (c : tie.After-write-needs) where
   abbrev counted : tie.After-write-word
   counted = c.before.before.before.before.before
 
-  lines-place : c.write-needs.result ≡ 2 + bus_count (start counted).args.table.now
-  lines-place = omega (arith, c.write-needs.ensures.0, needs-place counted, needs-counted c.before.before)
+  lines_place : c.write-needs.result ≡ 2 + bus_count (start counted).args.table.now
+  lines_place = omega (arith, c.write-needs.ensures.0, needs_place counted, needs-counted c.before.before)
 
 write-word-requires-2 : tie.Need-write-word-requires-2
 write-word-requires-2 c κs =
     let v = c.before.before.before.before in
     let w = counted v in
-    (omega (arith, c.before.lines.ensures, lines-le _ (start w).pre.0), omega (arith, lines-place v, v.write-needs.auto.1.0, rest-fits w))
+    (omega (arith, c.before.lines.ensures, lines-le _ (start w).pre.0), omega (arith, lines_place v, v.write-needs.auto.1.0, rest_fits w))
 
 write-pairs-requires : tie.Need-write-pairs-requires
 unfolding word
@@ -61,7 +61,7 @@ write-pairs-requires c κs =
     let v = m.before.before.before.before.before in
     let w = counted v in
     let held = (start w).pre.0 in
-    (held, omega (arith, m.write-word2.ensures.0, lines-place v, m.write-word2.auto.1.0, v.write-needs.auto.1.0, rest-fits w, length-pairRecords _ held))
+    (held, omega (arith, m.write-word2.ensures.0, lines_place v, m.write-word2.auto.1.0, v.write-needs.auto.1.0, rest_fits w, length-pair_records _ held))
 
 returns : tie.Need-returns
 returns c =

@@ -5,7 +5,7 @@ use mathlib.Core.Path.{◌≡◌, refl}
 use Prim.Native.Nat.{◌-◌}
 use lib.ListN.{length}
 use Rattle.lists.specs.Lists.{at}
-use Rattle.lists.specs.Writes.{Copied, copied_none, copied-length, copied-entry, copied_all}
+use Rattle.lists.specs.Writes.{Copied, copied_none, copied_length, copied_entry, copied_all}
 use Rattle.writer.proofs.write_needs.Statement.{statement}
 use Rattle.writer.proofs.write_needs.Tie as tie
 
@@ -20,7 +20,7 @@ loop-holds c = copied_none _ _ c.args.needs.now
 
 -- the bytes stay as many as they were
 size : (v : tie.At-loop invariant-loop decreases-loop) → length v.loop.out ≡ length v.before.args.out.now
-size v = copied-length _ _ _ v.loop.invariant v.before.requires.1
+size v = copied_length _ _ _ v.loop.invariant v.before.requires.1
 
 cast-out : tie.Need-overflow-cast-out invariant-loop decreases-loop
 unfolding at
@@ -31,7 +31,7 @@ slice_write_out c = let v = c.before.before in omega (arith, size v, v.before.re
 
 loop-again : tie.Need-loop-preserved invariant-loop decreases-loop
 unfolding at
-loop-again c = let v = c.before.before in copied-entry _ _ _ v.loop.invariant refl v.before.requires.1 (omega arith)
+loop-again c = let v = c.before.before in copied_entry _ _ _ v.loop.invariant refl v.before.requires.1 (omega arith)
 
 same_length : tie.Need-same-length invariant-loop decreases-loop
 same_length c = size c.before

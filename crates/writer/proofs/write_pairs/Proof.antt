@@ -7,7 +7,7 @@ use Prim.Native.Nat.{ℕ, ◌+◌, ◌-◌, ◌≤◌}
 use lib.ListN.{length}
 use Rattle.lists.specs.Lists.{WrittenAt}
 use Rattle.lists.specs.Below.{join_below}
-use Rattle.lists.specs.Writes.{written_start, written_next, written-done, written-length, written-fits}
+use Rattle.lists.specs.Writes.{written_start, written_next, written_done, written-length, written_fits}
 use Rattle.table_spec.specs.Layout.{bus_count, row}
 use Rattle.write_spec.specs.FileOf.{pair_records}
 use Rattle.writer.specs.RowRecords.{row_records}
@@ -49,7 +49,7 @@ neighbours-requires c κs =
 write-row-requires : tie.Need-write-row-requires invariant-loop decreases-loop
 write-row-requires c κs =
     let v = c.before.before.before in
-    written-fits _ _ _ v.loop.invariant.1 _ (room v) c.before.before.loop-test.true (ap (row_records _) c.before.neighbours.ensures)
+    written_fits _ _ _ v.loop.invariant.1 _ (room v) c.before.before.loop-test.true (ap (row_records _) c.before.neighbours.ensures)
 
 loop-again : tie.Need-loop-preserved invariant-loop decreases-loop
 loop-again c =
@@ -61,7 +61,7 @@ same_length : tie.Need-same-length invariant-loop decreases-loop
 same_length c = let v = c.before in written-length _ _ _ v.loop.invariant.1 _ (room v) v.loop.invariant.0
 
 returns : tie.Need-returns invariant-loop decreases-loop
-returns c = let v = c.before in rw (by_row v) (written-done _ _ _ v.loop.invariant.1 _ v.loop.invariant.0 c.loop-test.false)
+returns c = let v = c.before in rw (by_row v) (written_done _ _ _ v.loop.invariant.1 _ v.loop.invariant.0 c.loop-test.false)
 
 pub write-pairs-spec : {M : Type 1} → statement M
 write-pairs-spec =

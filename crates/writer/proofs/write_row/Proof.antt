@@ -7,7 +7,7 @@ use Prim.Native.Nat.{ℕ, ◌+◌, ◌-◌, ◌≤◌}
 use lib.ListN.{length}
 use Rattle.lists.specs.Lists.{at, WrittenAt}
 use Rattle.lists.specs.Below.{join_below}
-use Rattle.lists.specs.Writes.{written_start, written_next, written-done, written-length, written-fits}
+use Rattle.lists.specs.Writes.{written_start, written_next, written_done, written-length, written_fits}
 use Rattle.writer.specs.RowRecords.{record_above, row_records}
 use Rattle.writer.proofs.write_row.Statement.{statement}
 use Rattle.writer.proofs.write_row.Tie as tie
@@ -38,7 +38,7 @@ write-pair-requires : tie.Need-write-pair-requires invariant-loop decreases-loop
 write-pair-requires c κs =
     let v = c.before.before.before in
     let e = c.before.entry.ensures in
-    (e.1, written-fits _ _ _ v.loop.invariant.1 _ (room v) (omega arith) (ap (record_above _) e.0))
+    (e.1, written_fits _ _ _ v.loop.invariant.1 _ (room v) (omega arith) (ap (record_above _) e.0))
 
 loop-again : tie.Need-loop-preserved invariant-loop decreases-loop
 loop-again c =
@@ -51,7 +51,7 @@ same_length c = let v = c.before in written-length _ _ _ v.loop.invariant.1 _ (r
 
 returns : tie.Need-returns invariant-loop decreases-loop
 unfolding row_records
-returns c = let v = c.before in written-done _ _ _ v.loop.invariant.1 _ v.loop.invariant.0 c.loop-test.false
+returns c = let v = c.before in written_done _ _ _ v.loop.invariant.1 _ v.loop.invariant.0 c.loop-test.false
 
 pub write-row-spec : {M : Type 1} → statement M
 write-row-spec =

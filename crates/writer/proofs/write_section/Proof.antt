@@ -6,12 +6,12 @@ use mathlib.Core.Path.{◌≡◌, sym, ap, ◌∙◌}
 use lib.ListN.{length}
 use Rattle.lists.specs.Writes.{written_none, written-append}
 use Rattle.write_spec.specs.FileOf.{word, words, weight_section}
-use Rattle.write_spec.specs.WrittenWeights.{section-none, section-some}
+use Rattle.write_spec.specs.WrittenWeights.{section_none, section_some}
 use Rattle.writer.proofs.write_section.Statement.{statement}
 use Rattle.writer.proofs.write_section.Tie as tie
 
 returns : tie.Need-returns
-returns c = let s = c.before.before.before in rw (section-none _ (sym s.requires.0 ∙ c.if1.true)) (written_none _ _)
+returns c = let s = c.before.before.before in rw (section_none _ (sym s.requires.0 ∙ c.if1.true)) (written_none _ _)
 
 -- a weight is not 1
 module _ (c : tie.Else1) where
@@ -19,7 +19,7 @@ module _ (c : tie.Else1) where
   start = c.before.before.before
 
   stands : let w = start.args.weights.now in weight_section w ≡ word (length w) ++ words w
-  stands = section-some _ (sym start.pre.0 ∙ c.if1.false)
+  stands = section_some _ (sym start.pre.0 ∙ c.if1.false)
 
 write-word-requires : tie.Need-write-word-requires
 unfolding word

@@ -7,7 +7,7 @@ use mathlib.Core.Path.{refl, sym}
 use Prim.Native.Nat.{◌+◌, ◌%◌, ◌<◌}
 use lib.ListN.{length}
 use lib.Seq.{lt-length-set}
-use Rattle.lists.specs.Writes.{put-none, stored-entry}
+use Rattle.lists.specs.Writes.{put-none, stored_entry}
 use Rattle.write_spec.specs.FileOf.{word}
 use Rattle.writer.proofs.write_word.Statement.{statement}
 use Rattle.writer.proofs.write_word.Tie as tie
@@ -22,8 +22,8 @@ unfolding word
 returns c =
     let t = c.args.out.now in
     let i = c.args.at in
-    let low = stored-entry t i [] (sym (put-none t i)) (sym (add-zero i)) (c.args.number % 256) (omega (arith, c.requires.1)) in
-    (refl, stored-entry t i (c.args.number % 256 ∷ []) low refl _ (omega (arith, c.requires.1)))
+    let low = stored_entry t i [] (sym (put-none t i)) (sym (add-zero i)) (c.args.number % 256) (omega (arith, c.requires.1)) in
+    (refl, stored_entry t i (c.args.number % 256 ∷ []) low refl _ (omega (arith, c.requires.1)))
 
 pub write-word-spec : {M : Type 1} → statement M
 write-word-spec =

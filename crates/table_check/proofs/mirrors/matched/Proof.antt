@@ -14,7 +14,7 @@ use mathlib.Core.Bool.{true, true≢false}
 use mathlib.Core.List.{List}
 use Rattle.table_check.specs.Cursors.{is_at}
 use Rattle.lists.specs.Below.{all_below}
-use Rattle.lists.specs.Loops.{all_below_start, allBelow-more, allBelow-fails, allBelow-done}
+use Rattle.lists.specs.Loops.{all_below_start, all_below_more, all_below_fails, all_below_done}
 use Rattle.table_check.proofs.Mirror.{Moved, none_moved, one-moved, unmoved, all_moved, is_there}
 use Rattle.table_check.proofs.mirrors.matched.Statement.{statement}
 use Rattle.table_check.proofs.mirrors.matched.Tie as tie
@@ -51,7 +51,7 @@ returns c =
     let b = c.before.before.before.before.before.loop-test.true in
     let inv = c.before.before.before.before.before.before.loop.invariant in
     let f = failed (c.before.is_at.ensures ∙ asked c.before.before.before.before.before.before.before.before.before.before.requires.0 b c.before.before.before.before.entry.ensures.0 inv.2 c.before.before.row_at.ensures) c.if1.true in
-    record { long = inv.2.long; answer = sym (allBelow-fails _ _ _ b f); moved = λ w. absurd (true≢false (sym w)) }
+    record { long = inv.2.long; answer = sym (all_below_fails _ _ _ b f); moved = λ w. absurd (true≢false (sym w)) }
 
 add-cursors : tie.Need-overflow-add-cursors invariant-loop decreases-loop
 add-cursors c =
@@ -69,7 +69,7 @@ loop-again c =
     let inv = c.before.before.before.before.before.before.loop.invariant in
     let e = c.before.before.before.before.entry.ensures.0 in (
       search rules,
-      allBelow-more _ _ inv.1 (passed (c.before.is_at.ensures ∙ asked p.0 b e inv.2 c.before.before.row_at.ensures) c.if1.false),
+      all_below_more _ _ inv.1 (passed (c.before.is_at.ensures ∙ asked p.0 b e inv.2 c.before.before.row_at.ensures) c.if1.false),
       one-moved inv.2 e b refl (let z = low p.0 b e in omega (arith, p)),
     )
 
@@ -78,7 +78,7 @@ returns_2 c =
     let inv = c.before.loop.invariant in
     record {
       long = inv.2.long;
-      answer = sym (allBelow-done _ _ _ inv.1 inv.0 c.loop-test.false);
+      answer = sym (all_below_done _ _ _ inv.1 inv.0 c.loop-test.false);
       moved = λ _. all_moved inv.2 c.loop-test.false;
     }
 

@@ -9,14 +9,14 @@ use Rattle.lists.specs.Tests.{fails}
 use borrow.Author.Count.{below_more}
 use native.Mathlib.Nat.{not-suc-le-zero}
 use Rattle.table_spec.specs.Limits.{max_buses}
-use Rattle.table_spec.specs.Facts.{mirrored-facts, mirrored-test}
+use Rattle.table_spec.specs.Facts.{mirrored_facts, mirrored_test}
 use Rattle.table_spec.specs.Rows.{row_lies}
 use Rattle.table_spec.specs.Holds.{Mirrored}
 use Rattle.table_spec.specs.Layout.{row_at}
 use mathlib.Core.Bool.{Bool}
 use mathlib.Core.List.{List}
 use Rattle.table_check.specs.Cursors.{Matched}
-use Rattle.table_check.proofs.Mirror.{Marks, none_marked, answered, all-answered, not-refused, marked}
+use Rattle.table_check.proofs.Mirror.{Marks, none_marked, answered, all-answered, not_refused, marked}
 use borrow.Author.Tests.{not-true, not-false}
 use Rattle.table_check.proofs.mirrors.mirrored.Statement.{statement}
 use Rattle.table_check.proofs.mirrors.mirrored.Tie as tie
@@ -46,7 +46,7 @@ returns : tie.Need-returns invariant-loop decreases-loop
 returns c =
     let p = c.before.before.before.before.before.before.before.before.requires in
     let m = of_row _ c.before.before.before.row_at.ensures (not-true _ c.if1.true) c.before.matched.ensures in
-    sym (fails _ (λ w. let sy = mirrored-facts _ _ _ w in not-refused _ _ _ p.0 sy _ c.before.before.before.before.loop-test.true _ (c.before.before.before.before.before.loop.invariant.3 sy) _ m))
+    sym (fails _ (λ w. let sy = mirrored_facts _ _ _ w in not_refused _ _ _ p.0 sy _ c.before.before.before.before.loop-test.true _ (c.before.before.before.before.before.loop.invariant.3 sy) _ m))
 
 loop-again : tie.Need-loop-preserved invariant-loop decreases-loop
 loop-again c =
@@ -61,7 +61,7 @@ loop-again c =
     )
 
 returns_2 : tie.Need-returns-2 invariant-loop decreases-loop
-returns_2 c = sym (mirrored-test _ _ _ (all-answered _ _ _ (λ i b. c.before.loop.invariant.1 i (omega arith))))
+returns_2 c = sym (mirrored_test _ _ _ (all-answered _ _ _ (λ i b. c.before.loop.invariant.1 i (omega arith))))
 
 pub mirrored-spec : {M : Type 1} → statement M
 mirrored-spec =

@@ -2,18 +2,18 @@
 use borrow.Author.Rules.{rules}
 use mathlib.Core.Path.{sym, ◌∙◌}
 use Rattle.lists.specs.Tests.{fails, passed, failed, never_both}
-use Rattle.table_spec.specs.Facts.{steps-facts, steps-test, rows-facts, rows-read}
+use Rattle.table_spec.specs.Facts.{steps_facts, steps_test, rows_facts, rows-read}
 use Rattle.table_check.proofs.rows.sound_rows.Statement.{statement}
 use Rattle.table_check.proofs.rows.sound_rows.Tie as tie
 
 returns : tie.Need-returns
-returns c = sym (fails _ (λ w. c.if1.true (c.before.entry.ensures.0 ∙ (rows-facts _ _ _ c.before.before.before.before.requires.0 c.before.before.before.before.requires.1 w).first)))
+returns c = sym (fails _ (λ w. c.if1.true (c.before.entry.ensures.0 ∙ (rows_facts _ _ _ c.before.before.before.before.requires.0 c.before.before.before.before.requires.1 w).first)))
 
 returns_2 : tie.Need-returns-2
-returns_2 c = sym (fails _ (λ w. never_both (steps-test _ _ (rows-facts _ _ _ c.before.before.before.before.before.before.requires.0 c.before.before.before.before.before.before.requires.1 w).spans.steps) (failed c.before.spans.ensures c.if2.true)))
+returns_2 c = sym (fails _ (λ w. never_both (steps_test _ _ (rows_facts _ _ _ c.before.before.before.before.before.before.requires.0 c.before.before.before.before.before.before.requires.1 w).spans.steps) (failed c.before.spans.ensures c.if2.true)))
 
 valid-rows-requires : tie.Need-valid-rows-requires
-valid-rows-requires c κs = record { long = c.before.before.before.before.before.before.requires.0; ends = c.before.before.before.before.before.before.requires.1; steps = steps-facts _ _ (passed c.before.spans.ensures c.if2.false) }
+valid-rows-requires c κs = record { long = c.before.before.before.before.before.before.requires.0; ends = c.before.before.before.before.before.before.requires.1; steps = steps_facts _ _ (passed c.before.spans.ensures c.if2.false) }
 
 returns-3 : tie.Need-returns-3
 returns-3 c = rows-read _ _ _ c.before.before.before.before.entry.ensures.0 c.before.before.before.if1.false (passed c.before.before.spans.ensures c.before.if2.false) c.valid-rows.ensures

@@ -8,7 +8,7 @@ use Rattle.lists.specs.Lists.{at}
 use Rattle.lists.specs.Tests.{fails}
 use borrow.Author.Count.{below_more}
 use native.Mathlib.Nat.{not-suc-le-zero}
-use Rattle.table_spec.specs.Facts.{valid-facts, valid-test}
+use Rattle.table_spec.specs.Facts.{valid_facts, valid_test}
 use Rattle.table_spec.specs.Holds.{ValidRow}
 use mathlib.Core.List.{List}
 use mathlib.Core.Logic.{◌⊎◌, inl, inr, ⊎_elim}
@@ -55,19 +55,19 @@ loop-holds : tie.Need-loop-init invariant-loop decreases-loop
 loop-holds c = (search rules, none _ _ _)
 
 returns : tie.Need-returns invariant-loop decreases-loop
-returns c = sym (fails _ (λ w. let z = (valid-facts _ _ _ w).below _ c.before.before.loop-test.true in omega arith))
+returns c = sym (fails _ (λ w. let z = (valid_facts _ _ _ w).below _ c.before.before.loop-test.true in omega arith))
 
 returns_2 : tie.Need-returns-2 invariant-loop decreases-loop
-returns_2 c = sym (fails _ (λ w. (valid-facts _ _ _ w).others _ c.before.before.before.loop-test.true (omega arith)))
+returns_2 c = sym (fails _ (λ w. (valid_facts _ _ _ w).others _ c.before.before.before.loop-test.true (omega arith)))
 
 returns-3 : tie.Need-returns-3 invariant-loop decreases-loop
-returns-3 c = sym (fails _ (λ w. late c.before.before.before.before.before.loop.invariant.1 c.before.before.before.entry.ensures.0 c.before.before.before.before.loop-test.true c.if3.true (valid-facts _ _ _ w)))
+returns-3 c = sym (fails _ (λ w. late c.before.before.before.before.before.loop.invariant.1 c.before.before.before.entry.ensures.0 c.before.before.before.before.loop-test.true c.if3.true (valid_facts _ _ _ w)))
 
 loop-again : tie.Need-loop-preserved invariant-loop decreases-loop
 loop-again c = (search rules, more c.before.before.before.before.before.loop.invariant.1 c.before.before.before.entry.ensures.0 c.before.before.if1.false c.before.if2.false c.if3.false)
 
 returns-4 : tie.Need-returns-4 invariant-loop decreases-loop
-returns-4 c = sym (valid-test _ _ _ (done c.before.loop.invariant.1 c.loop-test.false))
+returns-4 c = sym (valid_test _ _ _ (done c.before.loop.invariant.1 c.loop-test.false))
 
 pub valid-row-spec : {M : Type 1} → statement M
 valid-row-spec =

@@ -7,7 +7,7 @@ use Rattle.table_spec.specs.Rows.{row_lies}
 use Rattle.table_spec.specs.Holds.{valid_row, valid_rows}
 use Rattle.table_spec.specs.Layout.{row_at}
 use mathlib.Core.Bool.{true}
-use Rattle.lists.specs.Loops.{all_below_start, allBelow-more, allBelow-fails, allBelow-done}
+use Rattle.lists.specs.Loops.{all_below_start, all_below_more, all_below_fails, all_below_done}
 use Rattle.lists.specs.Below.{all_below}
 use Rattle.table_check.proofs.rows.valid_rows.Statement.{statement}
 use Rattle.table_check.proofs.rows.valid_rows.Tie as tie
@@ -26,14 +26,14 @@ row-at-requires c κs = row_lies _ _ _ c.before.before.before.before.requires _ 
 
 returns : tie.Need-returns invariant-loop decreases-loop
 unfolding valid_rows
-returns c = sym (allBelow-fails _ _ _ c.before.before.before.loop-test.true (failed (c.before.valid-row.ensures ∙ ap (valid_row _ _) c.before.before.row_at.ensures) c.if1.true))
+returns c = sym (all_below_fails _ _ _ c.before.before.before.loop-test.true (failed (c.before.valid-row.ensures ∙ ap (valid_row _ _) c.before.before.row_at.ensures) c.if1.true))
 
 loop-again : tie.Need-loop-preserved invariant-loop decreases-loop
-loop-again c = (search rules, allBelow-more _ _ c.before.before.before.before.loop.invariant.1 (passed (c.before.valid-row.ensures ∙ ap (valid_row _ _) c.before.before.row_at.ensures) c.if1.false))
+loop-again c = (search rules, all_below_more _ _ c.before.before.before.before.loop.invariant.1 (passed (c.before.valid-row.ensures ∙ ap (valid_row _ _) c.before.before.row_at.ensures) c.if1.false))
 
 returns_2 : tie.Need-returns-2 invariant-loop decreases-loop
 unfolding valid_rows
-returns_2 c = sym (allBelow-done _ _ _ c.before.loop.invariant.1 c.before.loop.invariant.0 c.loop-test.false)
+returns_2 c = sym (all_below_done _ _ _ c.before.loop.invariant.1 c.before.loop.invariant.0 c.loop-test.false)
 
 pub valid-rows-spec : {M : Type 1} → statement M
 valid-rows-spec =
