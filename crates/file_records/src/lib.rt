@@ -1,4 +1,6 @@
 // The records of a network file, in order: how many neighbours they give each bus, how many different pairs they name, and the rows that they make.
+#![tactic(auto)]
+
 ghost use Rattle.std.specs.Prelude.{[], ◌≡◌, ◌+◌, ◌*◌, ◌≤◌, ◌<◌, length};
 ghost use Rattle.lists.specs.Lists.{put};
 ghost use Rattle.lists.specs.Below.{join_below};

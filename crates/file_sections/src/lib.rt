@@ -1,4 +1,6 @@
 // The network file: where it has what, whether its counts, its needs, its weights and the ends of its records are sound, and whether its records are in order.
+#![tactic(auto)]
+
 ghost use Rattle.std.specs.Prelude.{◌||◌, ◌++◌, ◌≡◌, ◌+◌, ◌*◌, ◌≤◌, ◌<◌, length};
 ghost use Rattle.lists.specs.Below.{map_below};
 ghost use Rattle.refusals.specs.Outcomes.{outcome};

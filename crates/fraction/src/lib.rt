@@ -1,4 +1,6 @@
 // Fractions of whole numbers: greatest common divisors, pairs in lowest terms, least common multiples.
+#![tactic(auto)]
+
 ghost use Rattle.std.specs.Prelude.{◌≡◌, ◌+◌, ◌-◌, ◌^◌, ◌<◌, min};
 ghost use Rattle.fraction.specs.Divisors.{IsGcd, IsLcm, lcm_of};
 ghost use Rattle.fraction.specs.Cancel.{outcome_of_cancelled, cancelled, cancel_outcome, CancelRule};

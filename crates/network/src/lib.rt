@@ -1,4 +1,6 @@
 // Networks: their limits, and what a line table has where. A network is a line table in a lent slice.
+#![tactic(auto)]
+
 ghost use Rattle.std.specs.Prelude.{◌≡◌};
 ghost use Rattle.table_spec.specs.Limits.{max_buses, max_degree, max_need, max_weight, max_lines, max_entries, max_bytes};
 ghost use Rattle.table_spec.specs.Holds.{within, can_be_met};

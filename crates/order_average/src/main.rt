@@ -2,6 +2,8 @@
 // `small_networks::average` goes through the orders and adds the weights of seen buses, and knows nothing of the scorer. So
 // that the comparison is seen to fail where it should, it is also made of shares by two formulas that are wrong. And each
 // network is seen to be refused once a need of it cannot be met, or a weight is out of range.
+#![tactic(auto)]
+
 ghost use Rattle.std.specs.Prelude.{◌<◌, ◌≤◌};
 ghost use Rattle.small_networks.specs.SizeBounds.{most};
 ghost use Rattle.order_average.specs.CountBounds.{counted};

@@ -1,4 +1,6 @@
 // The outage study: what the loss of a line does to the numerator of every bus.
+#![tactic(auto)]
+
 ghost use Rattle.std.specs.Prelude.{[], ◌∷◌, ◌++◌, ◌≡◌, ℕ, ◌*◌, ◌^◌, ◌≤◌, ◌<◌, length, drop};
 ghost use Rattle.lists.specs.Lists.{without, at, Ascending, WrittenAt};
 ghost use Rattle.signed.specs.Signed.{difference, signed_below};

@@ -1,5 +1,7 @@
 // What the outage program prints for its input, a line number and a network file: the change of each bus when that line goes out, or one line that says
 // why the input is refused.
+#![tactic(auto)]
+
 ghost use Rattle.std.specs.Prelude.{◌≡◌, ◌+◌, ◌≤◌, length};
 ghost use Rattle.lists.specs.Lists.{put, WrittenAt};
 ghost use Rattle.table_spec.specs.Holds.{Holds};

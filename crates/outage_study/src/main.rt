@@ -1,4 +1,6 @@
 // The outage program: a two-byte line number and a network file on standard input, the changes of all buses when that line goes out on standard output.
+#![tactic(auto)]
+
 use network::Network;
 use outage_report::{LONGEST_CHANGES, report};
 use standard_io::{Input, fail_reading, print, read_input, warn};

@@ -1,4 +1,6 @@
 // Read: a network file into a lent line table.
+#![tactic(auto)]
+
 ghost use Rattle.std.specs.Prelude.{◌∷◌, ◌≡◌, ◌+◌, ◌*◌, ◌≤◌, ◌<◌, length};
 ghost use Rattle.lists.specs.Lists.{put};
 ghost use Rattle.lists.specs.Below.{map_below};

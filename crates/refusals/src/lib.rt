@@ -1,4 +1,6 @@
 // Why a call is refused: a named case for each cause of the scope's two lists, with what orders add to them, and its number there.
+#![tactic(auto)]
+
 ghost use Rattle.std.specs.Prelude.{◌≡◌};
 ghost use Rattle.refusals.specs.Numbers.{number_of};
 

@@ -1,4 +1,6 @@
 // What the sheet program prints for a network file: its whole sheet, or one line that says why it is refused.
+#![tactic(auto)]
+
 ghost use Rattle.std.specs.Prelude.{◌≡◌, ◌≤◌, length};
 ghost use Rattle.lists.specs.Lists.{put};
 ghost use Rattle.report.specs.Report.{printed};

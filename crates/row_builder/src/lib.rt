@@ -1,4 +1,6 @@
 // Row starts of a table from counts of neighbours, and rows that grow at their ends. Nothing here knows of a file.
+#![tactic(auto)]
+
 ghost use Rattle.std.specs.Prelude.{◌≡◌, ◌+◌, ◌≤◌, ◌<◌, ltb, length, set};
 ghost use Rattle.lists.specs.Lists.{at, put};
 ghost use Rattle.lists.specs.Below.{any_below, sum_below, map_below};

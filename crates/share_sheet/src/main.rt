@@ -1,4 +1,6 @@
 // The sheet program: a network file on standard input, its share sheet on standard output.
+#![tactic(auto)]
+
 use network::Network;
 use report::{LONGEST_SHEET, report};
 use standard_io::{Input, fail_reading, print, read_input, warn};

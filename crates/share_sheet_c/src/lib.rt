@@ -1,5 +1,7 @@
 // The library for C, and for languages that call C: each call of the scope, the file writer, the outage study, the whole sheet and the sizes that are enough, on numbers, slices and lent places.
 // A call gives a 32-bit status: 0, or the scope's number where it is refused. Values are handed back through lent places, which a refused call leaves as they were.
+#![tactic(auto)]
+
 ghost use Rattle.std.specs.Prelude.{◌≡◌, length};
 ghost use Rattle.refusals.specs.Numbers.{number_of};
 ghost use Rattle.table_spec.specs.Limits.{max_buses, max_entries, max_bytes};

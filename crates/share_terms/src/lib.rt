@@ -1,4 +1,6 @@
 // What shares are made of: the common denominator L, what each bus gives to each of its neighbours, and how that is added up.
+#![tactic(auto)]
+
 ghost use Rattle.std.specs.Prelude.{◌≡◌, ℕ, suc, ◌+◌, ◌*◌, ◌^◌, ◌≤◌, ◌<◌, length, replicate};
 ghost use Rattle.lists.specs.Lists.{count, ◌∈◌, at, put};
 ghost use Rattle.lists.specs.Below.{map_below};

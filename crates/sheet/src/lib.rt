@@ -1,4 +1,6 @@
 // Share sheets: the text of one line, from a line table.
+#![tactic(auto)]
+
 ghost use Rattle.std.specs.Prelude.{◌≡◌, suc, ◌+◌, ◌≤◌, ◌<◌, length};
 ghost use Rattle.lists.specs.Lists.{WrittenAt};
 ghost use Rattle.refusals.specs.WrittenAnswer.{outcome_of_written};

@@ -1,4 +1,6 @@
 // Signed numbers: the difference of two numbers, and a signed number taken apart.
+#![tactic(auto)]
+
 ghost use Rattle.std.specs.Prelude.{not, ◌≡◌, ◌^◌, ◌<◌, nat_abs};
 ghost use Rattle.std.specs.Int.Signed.{non_neg};
 ghost use Rattle.signed.specs.Signed.{difference};

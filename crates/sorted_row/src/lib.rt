@@ -1,4 +1,6 @@
 // One row of ascending numbers in a slice, and a number inserted into it. Nothing here knows of a network.
+#![tactic(auto)]
+
 ghost use Rattle.std.specs.Prelude.{◌≡◌, ◌≤◌, ◌<◌, length, take};
 ghost use Rattle.lists.specs.Lists.{Ascending, put};
 ghost use Rattle.sorted_row.specs.Insertion.{is_added, RowAfter};

@@ -1,4 +1,6 @@
 // What programs share: standard input read into a buffer, a text printed, and what is said on standard error, after the program's name.
+#![tactic(auto)]
+
 ghost use Rattle.std.specs.Prelude.{length};
 ghost use Rattle.standard_io.specs.Input.{Within};
 

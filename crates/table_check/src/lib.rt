@@ -1,4 +1,6 @@
 // The test of a line table: whether a slice holds a network. Row starts begin at `from`.
+#![tactic(auto)]
+
 ghost use Rattle.std.specs.Prelude.{◌&&◌, ◌≡◌, ◌^◌, ◌≤◌, ◌<◌, length};
 ghost use Rattle.table_spec.specs.Layout.{row_size};
 ghost use Rattle.table_spec.specs.Holds.{complete, needs_in_range, weights_in_range, two_way, needs_can_be_met, holds, Complete, Steps};

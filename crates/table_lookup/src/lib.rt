@@ -1,4 +1,6 @@
 // Degree and Row: how many neighbours a bus of a lent table has, which, and where they stand.
+#![tactic(auto)]
+
 ghost use Rattle.std.specs.Prelude.{◌≡◌, ◌+◌, ◌*◌, ◌≤◌, length, take, drop};
 ghost use Rattle.table_spec.specs.TableOutcomes.{degree_outcome, row_outcome, row_before, row_place_outcome, RowStands};
 ghost use Rattle.table_lookup.specs.LookupAnswers.{outcome_of_degree, outcome_of_place};

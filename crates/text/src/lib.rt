@@ -1,4 +1,6 @@
 // Text in ASCII, written into a lent slice: numbers in decimal, with a minus sign if below zero, and templates in which each `#` stands for a number.
+#![tactic(auto)]
+
 ghost use Rattle.std.specs.Prelude.{◌+◌, ◌≤◌, length};
 ghost use Rattle.lists.specs.Lists.{count, WrittenAt};
 ghost use Rattle.text.specs.Text.{decimal, signed_decimal, sign, filled};

@@ -1,4 +1,6 @@
 // Whole share sheets: all lines of a network's sheet in one call.
+#![tactic(auto)]
+
 ghost use Rattle.std.specs.Prelude.{◌≡◌, ◌≤◌, length};
 ghost use Rattle.lists.specs.Lists.{WrittenAt};
 ghost use Rattle.refusals.specs.WrittenAnswer.{outcome_of_written};

@@ -1,1 +1,2 @@
 // What the file writer answers and writes: definitions and laws, no code.
+#![tactic(auto)]
