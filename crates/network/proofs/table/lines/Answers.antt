@@ -1,0 +1,5 @@
+use Rattle.table_spec.specs.LineCount.{half}
+use Rattle.network.proofs.table.lines.Goals as goal
+
+pub returns : goal.returns
+returns c = rw (c.neighbour_numbers.ensures, c.starts_at.ensures.0) (half _ c.requires)
