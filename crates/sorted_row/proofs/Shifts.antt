@@ -1,10 +1,6 @@
 -- A row while its numbers from a place on move one slot further.
-use mathlib.Core.List.{List, [], ◌∷◌, ◌++◌, append_assoc}
-use mathlib.Core.Path.{◌≡◌, sym, ap, ap₂, ◌∙◌}
-use Prim.Native.Nat.{ℕ, suc, ◌≤◌, ◌<◌}
-use native.Mathlib.Omega.{arith}
-use lib.ListN.{length, set, take, drop, length-append, length-take, length-drop, drop_of_length-le}
-use lib.Seq.{length-take-le, get_or-set_other, split_at, set_at, take-take, take-suc, drop-cons, append_snoc}
+use Rattle.std.proofs.Common.{List, [], ◌∷◌, ◌++◌, append_assoc, ◌≡◌, sym, ap, ap₂, ◌∙◌, ℕ, suc, ◌≤◌, ◌<◌, arith, length, set, take, drop, length-append, length-take, length-drop, drop_of_length-le, length-take-le, get_or-set_other, take-take, take-suc, drop-cons}
+use lib.Seq.{split_at, set_at, append_snoc}
 use Rattle.lists.specs.Lists.{at, put}
 use Rattle.lists.specs.Places.{at_take, at-append}
 use Rattle.lists.specs.Writes.{put_front}
