@@ -101,12 +101,13 @@ module _ {A C : Type 0} (part : A → C) where
   part_of (gives values) = gives (part values)
   part_of (refuses number) = refuses number
 
-  part_under : (t : Bool) (k : ℕ) (o : Outcome A) → part_of (cond t (refuses k) o) ≡ cond t (refuses k) (part_of o)
+module _ {A C : Type 0} (part : A → C) where
+  part_under : (t : Bool) (k : ℕ) (o : Outcome A) → part_of part (cond t (refuses k) o) ≡ cond t (refuses k) (part_of part o)
   part_under true k o = refl
   part_under false k o = refl
 
-  pub part-answered : (cs : List Cause) (values : A) {o : Outcome A} → o ≡ outcome cs values → part_of o ≡ outcome cs (part values)
-  part-answered [] values e = ap part_of e
+  pub part-answered : (cs : List Cause) (values : A) {o : Outcome A} → o ≡ outcome cs values → part_of part o ≡ outcome cs (part values)
+  part-answered [] values e = ap (part_of part) e
   part-answered (c ∷ cs) values e =
       let k = number_of c.refusal in
-      ap part_of e ∙ part_under c.test k (outcome cs values) ∙ ap (cond c.test (refuses k)) (part-answered cs values refl)
+      ap (part_of part) e ∙ part_under c.test k (outcome cs values) ∙ ap (cond c.test (refuses k)) (part-answered cs values refl)
