@@ -97,7 +97,7 @@ fn fit(small: Small, number: u32, sums: &mut [u32; MOST]) -> u32
 
 // What all orders give: how many were gone through, in how many the gains do not add up to the total weight, and the sum of
 // each bus's gains.
-#[derive(Drop)]
+#[derive(Clone, Copy)]
 pub struct Gains {
     pub orders: u32,
     pub uneven: u32,

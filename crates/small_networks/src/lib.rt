@@ -13,7 +13,7 @@ pub mod table;
 pub const MOST: usize = 7;
 
 // A network: how many buses, the need and the weight of each, and the set of the neighbours of each.
-#[derive(Drop)]
+#[derive(Clone, Copy)]
 pub struct Small {
     pub buses: usize,
     pub needs: [u8; MOST],
