@@ -6,6 +6,6 @@ mod cases;
 mod files;
 mod text;
 
-fn main() {
-    cases::run();
+fn main(rt: HostRuntime) {
+    cases::run(&rt);
 }

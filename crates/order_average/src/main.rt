@@ -8,7 +8,6 @@ ghost use Rattle.std.specs.Prelude.{◌<◌, ◌≤◌};
 ghost use Rattle.small_networks.specs.SizeBounds.{most};
 ghost use Rattle.order_average.specs.CountBounds.{counted};
 
-use libc::STDOUT_FILENO;
 use scorer::{AllShares, OneShare};
 use small_networks::average::{Gains, all_orders};
 use small_networks::choice::DRAWS;
@@ -270,58 +269,57 @@ fn compare_chosen(counts: &mut [u64; COUNTED]) {
     }
 }
 
-fn say(words: &[u8], number: u64) {
-    io::write_all(STDOUT_FILENO, words);
-    io::print_decimal(STDOUT_FILENO, number);
+// Prints words and a number. Whether they could be printed is seen where the output is compared.
+fn say(rt: &impl Print, words: &str, number: u64) {
+    let _ = print!(rt; "{words}{number}");
 }
 
 // A line for each count.
-fn say_counts(counts: &[u64; COUNTED]) {
-    say(b"networks ", counts[NETWORKS]);
-    say(b"\norders gone through ", counts[ORDERS]);
+fn say_counts(rt: &impl Print, counts: &[u64; COUNTED]) {
+    say(rt, "networks ", counts[NETWORKS]);
+    say(rt, "\norders gone through ", counts[ORDERS]);
     say(
-        b"\norders whose gains do not add up to the total weight ",
+        rt,
+        "\norders whose gains do not add up to the total weight ",
         counts[UNEVEN],
     );
-    say(b"\nbuses with a need above the degree ", counts[ABOVE]);
-    say(b"\nbuses with a need equal to it ", counts[EQUAL]);
-    say(b"\nbuses with need 1 below it ", counts[ONE]);
-    say(b"\nbuses with a need between ", counts[BETWEEN]);
-    say(b"\nshares that are not the average ", counts[DIFFERENT]);
+    say(rt, "\nbuses with a need above the degree ", counts[ABOVE]);
+    say(rt, "\nbuses with a need equal to it ", counts[EQUAL]);
+    say(rt, "\nbuses with need 1 below it ", counts[ONE]);
+    say(rt, "\nbuses with a need between ", counts[BETWEEN]);
+    say(rt, "\nshares that are not the average ", counts[DIFFERENT]);
     say(
-        b"\nshares by the formula of need 1 that are not ",
+        rt,
+        "\nshares by the formula of need 1 that are not ",
         counts[WRONG],
     );
     say(
-        b"\nshares by own weights alone that are not ",
+        rt,
+        "\nshares by own weights alone that are not ",
         counts[OWN_WEIGHT],
     );
     say(
-        b"\nnetworks with a need raised until it cannot be met ",
+        rt,
+        "\nnetworks with a need raised until it cannot be met ",
         counts[UNMET],
     );
-    say(b"\nof these not refused ", counts[UNMET_TAKEN]);
+    say(rt, "\nof these not refused ", counts[UNMET_TAKEN]);
     say(
-        b"\nnetworks with a weight made 0 or 1001 ",
+        rt,
+        "\nnetworks with a weight made 0 or 1001 ",
         counts[OUT_OF_RANGE],
     );
-    say(b"\nof these not refused ", counts[OUT_OF_RANGE_TAKEN]);
+    say(rt, "\nof these not refused ", counts[OUT_OF_RANGE_TAKEN]);
 }
 
-fn main() {
+fn main(rt: HostRuntime) {
     let mut counts = [0u64; COUNTED];
     compare_all(&mut counts);
-    io::write_all(
-        STDOUT_FILENO,
-        b"All networks of 1 to 5 buses with need 1 and weight 1\n",
-    );
-    say_counts(&counts);
+    let _ = println!(rt; "All networks of 1 to 5 buses with need 1 and weight 1");
+    say_counts(&rt, &counts);
     counts = [0u64; COUNTED];
     compare_chosen(&mut counts);
-    io::write_all(
-        STDOUT_FILENO,
-        b"\n\nNetworks of 1 to 7 buses with lines, needs and weights drawn\n",
-    );
-    say_counts(&counts);
-    io::write_all(STDOUT_FILENO, b"\n");
+    let _ = println!(rt; "\n\nNetworks of 1 to 7 buses with lines, needs and weights drawn");
+    say_counts(&rt, &counts);
+    let _ = println!(rt);
 }

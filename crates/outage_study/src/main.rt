@@ -14,18 +14,19 @@ fn file_of(input: &[u8]) -> &[u8] {
 }
 
 // Prints the changes of an input, or the line that refuses it.
-fn answer(input: &[u8]) {
-    warn(b"outage", file_of(input));
+fn answer(rt: &HostRuntime, input: &[u8]) {
+    let mut errors = rt.stderr();
+    warn(&mut errors, b"outage", file_of(input));
     let mut text = [0u8; LONGEST_CHANGES];
     let length = report(input, &mut text);
-    print(b"outage", &text[..length]);
+    print(&mut rt.stdout(), &mut errors, b"outage", &text[..length]);
 }
 
 // The line number and one byte more than the largest file has suffice to judge the input.
-fn main() {
+fn main(rt: HostRuntime) {
     let mut input = [0u8; Network::BYTES + 3];
-    match read_input(&mut input) {
-        Input::Bytes(bytes) => answer(&input[..bytes]),
-        Input::Failed => fail_reading(b"outage"),
+    match read_input(&mut rt.stdin(), &mut input) {
+        Input::Bytes(bytes) => answer(&rt, &input[..bytes]),
+        Input::Failed(error) => fail_reading(&mut rt.stderr(), b"outage", error),
     }
 }

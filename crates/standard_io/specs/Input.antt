@@ -6,4 +6,4 @@ use Rattle.standard_io.specs.declared.Input.TheVariants.{Bytes, Failed}
 -- the bytes read, if there are any, are no more than a buffer has
 abbrev pub Within : Input → ℕ → Type 0
 Within (Bytes n) most = n ≤ most
-Within Failed most = Unit {0}
+Within (Failed error) most = Unit {0}

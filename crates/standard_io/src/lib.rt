@@ -1,42 +1,39 @@
 // What programs share: standard input read into a buffer, a text printed, and what is said on standard error, after the program's name.
 #![tactic(auto)]
 
-ghost use Rattle.std.specs.Prelude.{length};
+ghost use Rattle.std.specs.Prelude.{◌≤◌, length};
 ghost use Rattle.standard_io.specs.Input.{Within};
 
-use libc::{STDERR_FILENO, STDIN_FILENO, STDOUT_FILENO};
+use std::io::{Cursor, Error, Read, Write};
 
-// How many bytes of standard input were read, or that a read failed.
-#[derive(Drop)]
+// How many bytes of standard input were read, or why a read failed.
+#[derive(Clone, Copy)]
 pub enum Input {
     Bytes(usize),
-    Failed,
+    Failed(Error),
 }
 
 // One read, of at most as many bytes as the buffer has; 0 say that the input has ended.
-fn read_some(buffer: &mut [u8]) -> Input
+fn read_some<R: Read>(input: &mut R, buffer: &mut [u8]) -> Input
     ensures { Within result (length buffer.new) }
 {
-    let got = libc::read(STDIN_FILENO, buffer);
-    if got < 0 {
-        return Input::Failed;
+    match input.read(buffer) {
+        Ok(bytes) => Input::Bytes(bytes),
+        Err(error) => Input::Failed(error),
     }
-    Input::Bytes(io::count(got, buffer))
 }
 
-// Reads until the buffer is full, the input ends or a read fails. The kit's `read_full` does not tell the last two apart.
-pub fn read_input(buffer: &mut [u8]) -> Input
+// Reads until the buffer is full, the input ends or a read fails.
+pub fn read_input<R: Read>(input: &mut R, buffer: &mut [u8]) -> Input
     ensures { Within result (length buffer.new) }
 {
     let mut bytes = 0;
     while bytes < buffer.len() {
-        let Input::Bytes(more) = read_some(&mut buffer[bytes..]) else {
-            return Input::Failed;
-        };
-        if more == 0 {
-            break;
+        match read_some(input, &mut buffer[bytes..]) {
+            Input::Failed(error) => return Input::Failed(error),
+            Input::Bytes(0) => break,
+            Input::Bytes(more) => bytes += more,
         }
-        bytes += more;
     }
     Input::Bytes(bytes)
 }
@@ -54,36 +51,53 @@ fn is_text(file: &[u8]) -> bool {
 }
 
 // Says on standard error what may have gone wrong before, where the file shows it.
-pub fn warn(name: &[u8], file: &[u8]) {
+pub fn warn<W: Write>(errors: &mut W, name: &[u8], file: &[u8]) {
     if file.len() == 0 {
-        io::write_all(STDERR_FILENO, name);
-        io::write_all(
-            STDERR_FILENO,
-            b": the input is empty: what was to write it may have failed\n",
-        );
+        let _ = errors.write_all(name);
+        let _ = errors.write_all(b": the input is empty: what was to write it may have failed\n");
     } else if is_text(file) {
-        io::write_all(STDERR_FILENO, name);
-        io::write_all(
-            STDERR_FILENO,
+        let _ = errors.write_all(name);
+        let _ = errors.write_all(
             b": the input looks like a text: make a network file of it with ./network-file first\n",
         );
     }
 }
 
-// Says on standard error what failed, and the system's reason. Writing the name leaves that reason as it is, unless it fails itself.
-fn fail(name: &[u8], what: &[u8]) {
-    io::write_all(STDERR_FILENO, name);
-    os::fail(what);
+// What stands between an error's words and its number.
+const NUMBER: &[u8] = b" (os error ";
+
+// Puts an error's words at the start of a buffer, and gives how many bytes they have.
+fn put_words(error: Error, buffer: &mut [u8]) -> usize
+    ensures { result ≤ length buffer.new }
+{
+    let mut writer = Cursor::new(&mut *buffer);
+    let _ = write!(writer, "{error}");
+    let end = writer.position() as usize;
+    let all = &buffer[..end.min(buffer.len())];
+    all.windows(NUMBER.len())
+        .position(|bytes| bytes == NUMBER)
+        .unwrap_or(all.len())
 }
 
-// Says on standard error that a read failed.
-pub fn fail_reading(name: &[u8]) {
-    fail(name, b": the input cannot be read");
+// Says on standard error what failed, and the system's reason.
+fn fail<W: Write>(errors: &mut W, name: &[u8], what: &[u8], error: Error) {
+    let mut words = [0u8; 128];
+    let length = put_words(error, &mut words);
+    let _ = errors.write_all(name);
+    let _ = errors.write_all(what);
+    let _ = errors.write_all(b": ");
+    let _ = errors.write_all(&words[..length]);
+    let _ = errors.write_all(b"\n");
+}
+
+// Says on standard error that a read failed, and why.
+pub fn fail_reading<W: Write>(errors: &mut W, name: &[u8], error: Error) {
+    fail(errors, name, b": the input cannot be read", error);
 }
 
 // Prints a text, or says on standard error that it could not be.
-pub fn print(name: &[u8], text: &[u8]) {
-    if !io::write_all(STDOUT_FILENO, text) {
-        fail(name, b": standard output cannot be written");
+pub fn print<O: Write, W: Write>(output: &mut O, errors: &mut W, name: &[u8], text: &[u8]) {
+    if let Err(error) = output.write_all(text) {
+        fail(errors, name, b": standard output cannot be written", error);
     }
 }
