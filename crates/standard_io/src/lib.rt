@@ -23,7 +23,7 @@ fn read_some<R: Read>(input: &mut R, buffer: &mut [u8]) -> Input
     }
 }
 
-// Reads until the buffer is full, the input ends or a read fails.
+// Reads until the buffer is full, the input ends or a read fails. std's `read_exact` does not say how many bytes an input had that ends early.
 pub fn read_input<R: Read>(input: &mut R, buffer: &mut [u8]) -> Input
     ensures { Within result (length buffer.new) }
 {
@@ -63,10 +63,10 @@ pub fn warn<W: Write>(errors: &mut W, name: &[u8], file: &[u8]) {
     }
 }
 
-// What stands between an error's words and its number.
+// What std writes behind the words of an error of the system, in front of its number.
 const NUMBER: &[u8] = b" (os error ";
 
-// Puts an error's words at the start of a buffer, and gives how many bytes they have.
+// Puts an error's words at the front of a buffer, without its number behind them, and gives how many bytes they have.
 fn put_words(error: Error, buffer: &mut [u8]) -> usize
     ensures { result ≤ length buffer.new }
 {
