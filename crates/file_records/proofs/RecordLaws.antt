@@ -1,12 +1,5 @@
 -- What a record in order adds to counts and rows.
-use mathlib.Core.Bool.{true, false, cond, ◌&&◌}
-use mathlib.Core.List.{List, [], ◌∷◌, ◌++◌}
-use mathlib.Core.Path.{◌≡◌, sym, ap, ◌∙◌}
-use Prim.Native.Nat.{ℕ, ◌+◌, ◌-◌, ◌≤◌, ◌<◌}
-use native.Mathlib.Omega.{arith}
-use borrow.Author.Tests.{ltb-true, eqb-true, eq-eqb, lt-ltb}
-use lib.Dec.{ltb, eqb}
-use lib.ListN.{length, set, length-set}
+use Rattle.std.proofs.Common.{true, false, cond, ◌&&◌, List, [], ◌∷◌, ◌++◌, ◌≡◌, sym, ap, ◌∙◌, ℕ, ◌+◌, ◌-◌, ◌≤◌, ◌<◌, arith, ltb-true, eqb-true, eq-eqb, lt-ltb, ltb, eqb, length, set, length-set}
 use Rattle.lists.specs.Lists.{indicator, at, Tabled}
 use Rattle.lists.specs.Tests.{same_test, and_left, and_right, eqb_self}
 use Rattle.lists.specs.Loops.{tabled_more}

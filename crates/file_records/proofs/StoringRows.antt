@@ -1,9 +1,5 @@
 -- Counts become row starts, rows are filled behind them, and both together are the rows as a table has them.
-use mathlib.Core.List.{List, [], ◌++◌}
-use mathlib.Core.Path.{◌≡◌, sym, ap, ◌∙◌}
-use Prim.Native.Nat.{ℕ, ◌+◌, ◌*◌, ◌≤◌}
-use native.Mathlib.Omega.{arith}
-use lib.ListN.{length}
+use Rattle.std.proofs.Common.{List, [], ◌++◌, ◌≡◌, sym, ap, ◌∙◌, ℕ, ◌+◌, ◌*◌, ◌≤◌, arith, length}
 use Rattle.lists.specs.Lists.{at, put}
 use Rattle.lists.specs.Below.{sum_below, join_below, map_below}
 use Rattle.lists.specs.SumsBelow.{sum_below-same}

@@ -1,10 +1,5 @@
 -- How long a file is, as its causes ask for it.
-use mathlib.Core.Bool.{true, false}
-use mathlib.Core.List.{List}
-use mathlib.Core.Path.{◌≡◌}
-use Prim.Native.Nat.{ℕ, ◌≤◌, ◌<◌}
-use borrow.Author.Tests.{lt-ltb, le-ltb}
-use lib.ListN.{length}
+use Rattle.std.proofs.Common.{true, false, List, ◌≡◌, ℕ, ◌≤◌, ◌<◌, lt-ltb, le-ltb, length}
 use Rattle.file_spec.specs.Sections.{ends_before, goes_on}
 
 module _ (f : List ℕ) (i : ℕ) where

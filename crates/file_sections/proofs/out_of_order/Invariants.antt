@@ -1,0 +1,10 @@
+-- The records passed are in order.
+use Rattle.std.proofs.Common.{◌≡◌, ◌-◌, ◌≤◌, false}
+use Rattle.file_spec.specs.RecordOrder.{out_of_order}
+use Rattle.file_sections.proofs.out_of_order.Given as goal
+
+abbrev pub invariant-loop-k : goal.invariant-loop-k
+invariant-loop-k l = (l.k ≤ l.m) × (out_of_order l.k l.section ≡ false)
+
+abbrev pub decreases-loop-k : goal.decreases-loop-k
+decreases-loop-k l = l.m - l.k
