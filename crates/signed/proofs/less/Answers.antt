@@ -1,0 +1,5 @@
+use Rattle.signed.specs.SignedBits.{less_read}
+use Rattle.signed.proofs.less.Goals as goal
+
+pub returns : goal.returns
+returns c = less_read _ _ c.requires.0 c.requires.1
