@@ -1,16 +1,17 @@
 -- What a record in order adds to counts and rows.
 use Rattle.std.proofs.Common.{true, false, cond, ◌&&◌, List, [], ◌∷◌, ◌++◌, ◌≡◌, sym, ap, ◌∙◌, ℕ, ◌+◌, ◌-◌, ◌≤◌, ◌<◌, arith, ltb-true, eqb-true, eq-eqb, lt-ltb, ltb, eqb, length, set, length-set}
 use Rattle.lists.specs.Lists.{indicator, at, Tabled}
-use Rattle.lists.specs.Tests.{same_test, and_left, and_right, eqb_self}
-use Rattle.lists.specs.Loops.{tabled_more}
-use Rattle.lists.specs.JoinBelow.{length-join_below}
+use Rattle.lists.proofs.Tests.{same_test, and_left, and_right, eqb_self}
+use Rattle.lists.proofs.Loops.{tabled_more}
+use Rattle.lists.proofs.JoinBelow.{length-join_below}
 use Rattle.table_spec.specs.Limits.{max_buses}
 use Rattle.row_builder.specs.GrowingRows.{AllZero, GrowingRows}
-use Rattle.row_builder.specs.GrowingLaws.{length_grown, growing_same, growing_fits, growing_next}
+use Rattle.row_builder.proofs.GrowingLaws.{length_grown, growing_same, growing_fits, growing_next}
 use Rattle.file_spec.specs.FileBytes.{first_end, second_end}
 use Rattle.file_spec.specs.Records.{neighbours, repeats}
-use Rattle.file_spec.specs.RecordPairs.{neighbours-none, neighbours-le, neighbours_again, neighbours_grows}
-use Rattle.file_spec.specs.OrderedRecords.{OrderedRecords, rows-le, repeats_by, repeats_facts, rows_grow}
+use Rattle.file_spec.proofs.RecordPairs.{neighbours-none, neighbours-le, neighbours_again, neighbours_grows}
+use Rattle.file_spec.specs.OrderedRecords.{OrderedRecords}
+use Rattle.file_spec.proofs.OrderedRecords.{rows-le, repeats_by, repeats_facts, rows_grow}
 use Rattle.file_records.specs.RecordSteps.{equals_last, NeighbourCounts}
 
 -- without records every count is 0

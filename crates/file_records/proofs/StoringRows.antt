@@ -2,16 +2,17 @@
 use Rattle.std.proofs.Common.{List, [], ◌++◌, ◌≡◌, sym, ap, ◌∙◌, ℕ, ◌+◌, ◌*◌, ◌≤◌, arith, length}
 use Rattle.lists.specs.Lists.{at, put}
 use Rattle.lists.specs.Below.{sum_below, join_below, map_below}
-use Rattle.lists.specs.SumsBelow.{sum_below-same}
-use Rattle.lists.specs.JoinBelow.{length-join_below, length-map_below, map_below-same}
-use Rattle.lists.specs.Writes.{stored_list}
+use Rattle.lists.proofs.SumsBelow.{sum_below-same}
+use Rattle.lists.proofs.JoinBelow.{length-join_below, length-map_below, map_below-same}
+use Rattle.lists.proofs.Writes.{stored_list}
 use Rattle.table_spec.specs.Limits.{max_lines}
 use Rattle.table_spec.specs.Layout.{laid}
-use Rattle.table_spec.specs.Laid.{length-laid}
+use Rattle.table_spec.proofs.Laid.{length-laid}
 use Rattle.row_builder.specs.GrowingRows.{RowStarts, GrowingRows}
-use Rattle.row_builder.specs.GrowingLaws.{growing_none}
+use Rattle.row_builder.proofs.GrowingLaws.{growing_none}
 use Rattle.file_spec.specs.Records.{neighbours}
-use Rattle.file_spec.specs.OrderedRecords.{OrderedRecords, rows-le}
+use Rattle.file_spec.specs.OrderedRecords.{OrderedRecords}
+use Rattle.file_spec.proofs.OrderedRecords.{rows-le}
 use Rattle.file_records.specs.RecordSteps.{NeighbourCounts}
 
 -- the neighbours that m records give n buses were counted

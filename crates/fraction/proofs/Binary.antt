@@ -6,8 +6,9 @@ use native.Mathlib.Decide.{dec_le}
 use native.Mathlib.Omega.{arith}
 use lib.Count.{count_trailing_zeros}
 use Rattle.fraction.specs.Divisors.{IsGcd, gcd_of}
-use Rattle.fraction.specs.Gcd.{gcd_is, gcd_self, gcd_comm, gcd_sub}
-use Rattle.fraction.specs.Odd.{OddPart, gcd_strip, gcd_twos}
+use Rattle.fraction.proofs.Gcd.{gcd_is, gcd_self, gcd_comm, gcd_sub}
+use Rattle.fraction.specs.Odd.{OddPart}
+use Rattle.fraction.proofs.Odd.{gcd_strip, gcd_twos}
 
 -- the loop's invariant: both numbers are odd, and g is their greatest common divisor
 pub record Odds (g a b : ℕ) : Type 0 where

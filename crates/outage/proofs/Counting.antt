@@ -9,18 +9,18 @@ use lib.Dec.{ltb}
 use lib.ListN.{length, drop, length-append, length-drop}
 use Rattle.lists.specs.Lists.{has, at, Ascending}
 use Rattle.lists.specs.Below.{join_below, map_below}
-use Rattle.lists.specs.Tests.{split, same_test, and_both, and_left, and_right}
-use Rattle.lists.specs.Counts.{in_has, has_in}
-use Rattle.lists.specs.Places.{at_drop, in_at, at_in}
-use Rattle.lists.specs.Loops.{join_below-next}
-use Rattle.lists.specs.JoinBelow.{length-map_below, map_below-at, at-join_below}
-use Rattle.lists.specs.ListBelow.{join_below_passing, list_below_by}
+use Rattle.lists.proofs.Tests.{split, same_test, and_both, and_left, and_right}
+use Rattle.lists.proofs.Counts.{in_has, has_in}
+use Rattle.lists.proofs.Places.{at_drop, in_at, at_in}
+use Rattle.lists.proofs.Loops.{join_below-next}
+use Rattle.lists.proofs.JoinBelow.{length-map_below, map_below-at, at-join_below}
+use Rattle.lists.proofs.ListBelow.{join_below_passing, list_below_by}
 use Rattle.table_spec.specs.Limits.{max_buses}
 use Rattle.table_spec.specs.Layout.{bus_count, row, lines}
 use Rattle.table_spec.specs.Holds.{Holds}
-use Rattle.table_spec.specs.Rows.{row_valid}
+use Rattle.table_spec.proofs.Rows.{row_valid}
 use Rattle.table_spec.specs.Lines.{pair_number, pairs, lower_end, upper_end}
-use Rattle.table_spec.specs.LinePairs.{pairs-joined, neighbour-below, length_pairs}
+use Rattle.table_spec.proofs.LinePairs.{pairs-joined, neighbour-below, length_pairs}
 use Rattle.outage.specs.StudyWork.{Above}
 
 -- the numbers of the pairs whose lower bus is i

@@ -5,12 +5,12 @@ use Prim.Native.Nat.{ℕ, ◌+◌, ◌^◌, ◌≤◌, ◌<◌}
 use native.Mathlib.Omega.{arith}
 use lib.ListN.{length}
 use Rattle.lists.specs.Lists.{◌∈◌, without, at}
-use Rattle.lists.specs.Without.{of_without, length-without-le}
+use Rattle.lists.proofs.Without.{of_without, length-without-le}
 use Rattle.table_spec.specs.Limits.{max_degree, max_weight}
 use Rattle.table_spec.specs.Layout.{bus_count, row, need}
 use Rattle.table_spec.specs.Holds.{Holds}
 use Rattle.share_terms.specs.Unit.{unit, Divided}
-use Rattle.share_terms.specs.RowTerms.{row_short, row_inside}
+use Rattle.share_terms.proofs.RowTerms.{row_short, row_inside}
 use Rattle.outage.specs.StudyWork.{Room}
 
 -- the row r of an end, as code has it

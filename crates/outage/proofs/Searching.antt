@@ -8,10 +8,10 @@ use borrow.Author.Tests.{ne_eqb, eq-eqb}
 use lib.ListN.{length, set, take, length-append}
 use lib.Seq.{take_all, length-take-le}
 use Rattle.lists.specs.Lists.{without, at, Ascending, WrittenAt}
-use Rattle.lists.specs.Places.{take_next}
-use Rattle.lists.specs.Loops.{last_or}
-use Rattle.lists.specs.Without.{without-append, length-without-le}
-use Rattle.lists.specs.Writes.{length-put, stored_entry}
+use Rattle.lists.proofs.Places.{take_next}
+use Rattle.lists.proofs.Loops.{last_or}
+use Rattle.lists.proofs.Without.{without-append, length-without-le}
+use Rattle.lists.proofs.Writes.{length-put, stored_entry}
 use Rattle.outage.specs.StudyWork.{Above}
 
 -- ---- the search: buses before place `low` are not above the bus, and those from place `high` on are

@@ -6,9 +6,9 @@ use native.Mathlib.Omega.{arith}
 use lib.IntN.{ℤ}
 use lib.ListN.{length, replicate, drop}
 use Rattle.lists.specs.Lists.{without, at}
-use Rattle.lists.specs.Places.{at-zeros}
+use Rattle.lists.proofs.Places.{at-zeros}
 use Rattle.signed.specs.Signed.{difference, signed_below}
-use Rattle.signed.specs.SignedLists.{signed_below-same}
+use Rattle.signed.proofs.SignedLists.{signed_below-same}
 use Rattle.table_spec.specs.Limits.{max_weight}
 use Rattle.table_spec.specs.Layout.{bus_count, row, need, weight, lines}
 use Rattle.table_spec.specs.Holds.{Holds}
@@ -20,9 +20,10 @@ use Rattle.share_terms.specs.Unit.{Divided}
 use Rattle.two_way.specs.TwoWay.{network_of}
 use Rattle.outage_spec.specs.Outage.{without_pair, without_line, change_over}
 use Rattle.outage_spec.specs.StudyOutcome.{Line}
-use Rattle.outage_spec.specs.WeakenedTable.{lower_inside, weak_buses, lower_row, upper-row}
-use Rattle.outage_spec.specs.EndTerms.{ends_with, ends_without, change_by_ends, ends_with_le, ends_without-le}
-use Rattle.outage_spec.specs.StudyDue.{line_named}
+use Rattle.outage_spec.proofs.WeakenedTable.{lower_inside, weak_buses, lower_row, upper-row}
+use Rattle.outage_spec.specs.EndTerms.{ends_with, ends_without}
+use Rattle.outage_spec.proofs.EndTerms.{change_by_ends, ends_with_le, ends_without-le}
+use Rattle.outage_spec.proofs.StudyDue.{line_named}
 use Rattle.outage.specs.StudyWork.{Room}
 
 pub zeros_room : (n L : ℕ) → L ≤ max_denominator → Room (max_weight * L) (replicate n 0)

@@ -8,15 +8,15 @@ use lib.Dec.{ltb}
 use lib.ListN.{length, length-append}
 use Rattle.lists.specs.Lists.{at, put}
 use Rattle.lists.specs.Below.{any_below}
-use Rattle.lists.specs.Loops.{any_below-same}
-use Rattle.lists.specs.Writes.{stored_list}
+use Rattle.lists.proofs.Loops.{any_below-same}
+use Rattle.lists.proofs.Writes.{stored_list}
 use Rattle.table_spec.specs.Limits.{max_degree}
 use Rattle.table_spec.specs.Layout.{laid, weights_from, starts_from, table_of}
 use Rattle.table_spec.specs.Holds.{needs_can_be_met}
-use Rattle.table_spec.specs.Facts.{met_same}
-use Rattle.table_spec.specs.Laid.{length-laid}
+use Rattle.table_spec.proofs.Facts.{met_same}
+use Rattle.table_spec.proofs.Laid.{length-laid}
 use Rattle.file_spec.specs.Records.{neighbours, degree_too_high, need_above_degree, pair_count}
-use Rattle.file_spec.specs.RecordPairs.{rows-length}
+use Rattle.file_spec.proofs.RecordPairs.{rows-length}
 use Rattle.file_spec.specs.OrderedRecords.{OrderedRecords}
 use Rattle.file_records.specs.RecordSteps.{NeighbourCounts}
 

@@ -7,18 +7,19 @@ use native.Mathlib.Omega.{arith}
 use lib.ListN.{length, replicate}
 use Rattle.lists.specs.Lists.{◌∈◌, at, put}
 use Rattle.lists.specs.Below.{map_below, range}
-use Rattle.lists.specs.Loops.{sum_below-next}
-use Rattle.lists.specs.SumsBelow.{sum_below-le, sum_below_const}
+use Rattle.lists.proofs.Loops.{sum_below-next}
+use Rattle.lists.proofs.SumsBelow.{sum_below-le, sum_below_const}
 use Rattle.game.specs.Game.{Game, numerator as formula}
 use Rattle.table_spec.specs.Limits.{max_buses, max_weight}
 use Rattle.table_spec.specs.Layout.{bus_count, row, need, weight}
 use Rattle.table_spec.specs.Holds.{Scorable}
 use Rattle.share_spec.specs.TableNetwork.{game_of, max_denominator, Over}
-use Rattle.share_spec.specs.TableGame.{game_on}
-use Rattle.share_spec.specs.TermsGiven.{term_to, terms_from, term_by_row, given-le, given_by, all-given, none-given}
+use Rattle.share_spec.proofs.TableGame.{game_on}
+use Rattle.share_spec.specs.TermsGiven.{term_to, terms_from, given_by}
+use Rattle.share_spec.proofs.TermsGiven.{term_by_row, given-le, all-given, none-given}
 use Rattle.share_terms.specs.Added.{Added}
-use Rattle.share_terms.specs.Adding.{added_same, added_both, cleared_long, cleared_zero, added_zeros}
-use Rattle.share_terms.specs.RowTerms.{added_by, row_inside}
+use Rattle.share_terms.proofs.Adding.{added_same, added_both, cleared_long, cleared_zero, added_zeros}
+use Rattle.share_terms.proofs.RowTerms.{added_by, row_inside}
 use Rattle.scorer.specs.ScorerWork.{Room}
 
 -- ---- what one bus gives

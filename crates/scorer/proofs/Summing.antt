@@ -9,20 +9,20 @@ use lib.Dec.{ltb}
 use lib.ListN.{length, take, get_or-eq_default}
 use lib.Seq.{take_all, length-take-le}
 use Rattle.lists.specs.Lists.{sum_by, at}
-use Rattle.lists.specs.Tests.{split}
-use Rattle.lists.specs.Loops.{sum_by_take_next}
-use Rattle.lists.specs.Places.{in_at}
-use Rattle.lists.specs.Sums.{sum_by_const, sum_by_le}
+use Rattle.lists.proofs.Tests.{split}
+use Rattle.lists.proofs.Loops.{sum_by_take_next}
+use Rattle.lists.proofs.Places.{in_at}
+use Rattle.lists.proofs.Sums.{sum_by_const, sum_by_le}
 use Rattle.game.specs.Game.{own_term, neighbour_term, own, neighbour}
-use Rattle.game.specs.Terms.{terms_whole}
+use Rattle.game.proofs.Terms.{terms_whole}
 use Rattle.table_spec.specs.Limits.{max_degree, max_weight}
 use Rattle.table_spec.specs.Layout.{bus_count, weights, row, degree, need, weight}
 use Rattle.table_spec.specs.Holds.{Scorable}
-use Rattle.table_spec.specs.Rows.{valid_below, length-weights, row_valid, degree-le}
+use Rattle.table_spec.proofs.Rows.{valid_below, length-weights, row_valid, degree-le}
 use Rattle.share_spec.specs.TableNetwork.{game_of, max_denominator, Over}
 use Rattle.share_spec.specs.Formula.{numerator_over}
-use Rattle.share_spec.specs.TermBounds.{term_le, own_rest}
-use Rattle.share_spec.specs.TableGame.{term_whole}
+use Rattle.share_spec.proofs.TermBounds.{term_le, own_rest}
+use Rattle.share_spec.proofs.TableGame.{term_whole}
 use Rattle.two_way.specs.TwoWay.{network_of}
 
 -- the own term, and the terms of the first k neighbours

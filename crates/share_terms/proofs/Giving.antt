@@ -7,12 +7,12 @@ use native.Mathlib.Omega.{arith}
 use lib.Dec.{eqb}
 use lib.ListN.{length, set, take, drop, take-append-drop}
 use Rattle.lists.specs.Lists.{indicator, count, ◌∈◌, at}
-use Rattle.lists.specs.Tests.{eqb_self}
-use Rattle.lists.specs.Counts.{count-append}
-use Rattle.lists.specs.Loops.{sum_by_take_next}
-use Rattle.lists.specs.Places.{in_at}
+use Rattle.lists.proofs.Tests.{eqb_self}
+use Rattle.lists.proofs.Counts.{count-append}
+use Rattle.lists.proofs.Loops.{sum_by_take_next}
+use Rattle.lists.proofs.Places.{in_at}
 use Rattle.share_terms.specs.Added.{Added}
-use Rattle.share_terms.specs.Adding.{added_entry, added_both}
+use Rattle.share_terms.proofs.Adding.{added_entry, added_both}
 
 -- each bus of the row r has an entry that its terms x fit into; the first k buses have them, and bus j is the next one
 module _ (r : List ℕ) (x k : ℕ) {t u : List ℕ} (room : (v : ℕ) → v ∈ r → (v < length t) × (at t v + x * count v r < 2 ^ 64))

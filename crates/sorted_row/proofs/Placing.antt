@@ -1,12 +1,12 @@
 -- Where a number belongs in a row that ascends.
 use Rattle.std.proofs.Common.{false, List, [], ◌∷◌, ⊎_elim, ◌≡◌, refl, sym, ap, subst, ◌∙◌, ℕ, zero, suc, ◌≤◌, ◌<◌, zero-le, suc-le-suc, not-suc-le-zero, le_of_suc-le-suc, eq-or-lt_of_le, arith, leb-true, leb-false, leb, length, take, length-take-le}
 use Rattle.lists.specs.Lists.{◌∈◌, has, at, Ascending, put}
-use Rattle.lists.specs.Tests.{split}
-use Rattle.lists.specs.Counts.{in_has, none_has}
-use Rattle.lists.specs.Places.{at_take, in_at, count_none}
+use Rattle.lists.proofs.Tests.{split}
+use Rattle.lists.proofs.Counts.{in_has, none_has}
+use Rattle.lists.proofs.Places.{at_take, in_at, count_none}
 use Rattle.sorted_row.specs.declared.Inserted.TheVariants.{Added, Present, Full}
 use Rattle.sorted_row.specs.Insertion.{insert, RowAfter}
-use Rattle.sorted_row.specs.InsertionLaws.{insert-cases}
+use Rattle.sorted_row.proofs.InsertionLaws.{insert-cases}
 use Rattle.sorted_row.specs.Shifting.{Place, insert_at}
 
 -- the place of x among the first `count` numbers of a row, said of the row

@@ -12,15 +12,15 @@ use lib.ListN.{length, take, set, replicate, length-set, length-take}
 use lib.Seq.{take_all}
 use Rattle.lists.specs.Lists.{indicator, count_by, count, ◌∈◌, has, at}
 use Rattle.lists.specs.Below.{all_below}
-use Rattle.lists.specs.Tests.{split, same_test, never_both, and_both, and_left, and_right}
-use Rattle.lists.specs.Sums.{sum_by_cong, sum_by-zero}
-use Rattle.lists.specs.Counts.{in_has, has_in, has-none}
-use Rattle.lists.specs.Places.{at-zeros, at_set, at_take, in_at, at_in, count_none, count_under_next, ascending_place}
-use Rattle.lists.specs.Loops.{sum_by_take_next, all_below-at, all_below_by}
+use Rattle.lists.proofs.Tests.{split, same_test, never_both, and_both, and_left, and_right}
+use Rattle.lists.proofs.Sums.{sum_by_cong, sum_by-zero}
+use Rattle.lists.proofs.Counts.{in_has, has_in, has-none}
+use Rattle.lists.proofs.Places.{at-zeros, at_set, at_take, in_at, at_in, count_none, count_under_next, ascending_place}
+use Rattle.lists.proofs.Loops.{sum_by_take_next, all_below-at, all_below_by}
 use Rattle.table_spec.specs.Layout.{row_at}
 use Rattle.table_spec.specs.Holds.{ValidRow, SoundRows, Mirrored}
 use Rattle.table_check.specs.Cursors.{is_at, Matched}
-use Rattle.table_spec.specs.Rows.{valid_once}
+use Rattle.table_spec.proofs.Rows.{valid_once}
 
 -- ---- one row: the cursors of the rows that its first k entries name have moved on by one, from x to y
 

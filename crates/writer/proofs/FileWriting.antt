@@ -8,14 +8,14 @@ use lib.Dec.{ltb}
 use lib.ListN.{length, length-append}
 use Rattle.lists.specs.Lists.{has, WrittenAt}
 use Rattle.lists.specs.Below.{join_below}
-use Rattle.lists.specs.JoinBelow.{join_below-same}
-use Rattle.lists.specs.ListBelow.{join_below_members}
-use Rattle.lists.specs.Writes.{written-append}
+use Rattle.lists.proofs.JoinBelow.{join_below-same}
+use Rattle.lists.proofs.ListBelow.{join_below_members}
+use Rattle.lists.proofs.Writes.{written-append}
 use Rattle.table_spec.specs.Layout.{bus_count, needs, weights, row, lines}
 use Rattle.table_spec.specs.Holds.{ValidRow, Holds}
-use Rattle.table_spec.specs.Rows.{valid_below, length-needs, row_valid}
+use Rattle.table_spec.proofs.Rows.{valid_below, length-needs, row_valid}
 use Rattle.write_spec.specs.FileOf.{word, record_of, pair_records, weight_section, file_of}
-use Rattle.write_spec.specs.PairLaws.{length-pair_records}
+use Rattle.write_spec.proofs.PairLaws.{length-pair_records}
 use Rattle.writer.specs.FileFront.{front_of}
 use Rattle.writer.specs.RowRecords.{record_above, row_records}
 

@@ -2,7 +2,7 @@ use Rattle.std.proofs.Common.{◌≡◌, false, true, not, refl, sym, ap, ◌∙
 use Rattle.lists.specs.Below.{sum_below}
 use Rattle.lists.specs.Lists.{indicator}
 use Rattle.file_spec.specs.Records.{repeats, pair_count}
-use Rattle.file_spec.specs.RecordPairs.{pair_count-le, pair_count-next}
+use Rattle.file_spec.proofs.RecordPairs.{pair_count-le, pair_count-next}
 use Rattle.file_records.proofs.RecordLaws.{repeats-last, first_bus, second_bus, neighbour-count-le, second_count-le, counts-none, counts_again, counts-next}
 use Rattle.file_records.proofs.count_neighbours.Goals as goal
 use Rattle.file_records.proofs.count_neighbours.Goals.{then-not-equals_last, else-not-equals_last}

@@ -1,9 +1,9 @@
 use Rattle.std.proofs.Common.{◌≡◌, false, true, length, refl, sym, ◌∙◌, arith}
-use Rattle.lists.specs.Loops.{by_end}
+use Rattle.lists.proofs.Loops.{by_end}
 use Rattle.row_builder.specs.GrowingRows.{GrowingRows}
-use Rattle.row_builder.specs.GrowingLaws.{growing_same, growing_done}
+use Rattle.row_builder.proofs.GrowingLaws.{growing_same, growing_done}
 use Rattle.file_spec.specs.Records.{neighbours, repeats}
-use Rattle.file_spec.specs.RecordPairs.{neighbours-none, neighbours_again}
+use Rattle.file_spec.proofs.RecordPairs.{neighbours-none, neighbours_again}
 use Rattle.file_records.proofs.RecordLaws.{repeats-last, first_bus, second_bus, first_fits, first-grown, second_fits, second_grown}
 use Rattle.file_records.proofs.fill_rows.Goals as goal
 use Rattle.file_records.proofs.fill_rows.Goals.{then-not-equals_last, else-not-equals_last}

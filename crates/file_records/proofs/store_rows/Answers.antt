@@ -1,7 +1,7 @@
 use Rattle.std.proofs.Common.{◌++◌, ◌+◌, ◌-◌, ◌≤◌, length, take, drop, ap, ◌∙◌, arith}
 use Rattle.lists.specs.Below.{join_below}
-use Rattle.lists.specs.Places.{length_part}
-use Rattle.lists.specs.Writes.{put_whole}
+use Rattle.lists.proofs.Places.{length_part}
+use Rattle.lists.proofs.Writes.{put_whole}
 use Rattle.file_spec.specs.Records.{neighbours}
 use Rattle.file_records.proofs.StoringRows.{laid-counted, numbers-counted, numbers-le, growing_start, laid-stored}
 use Rattle.file_records.proofs.store_rows.Goals as goal

@@ -1,5 +1,5 @@
 use Rattle.std.proofs.Common.{◌≡◌, not, refl, sym, ap, ◌∙◌, arith}
-use Rattle.refusals.specs.Due.{answer, stop, pass, accept}
+use Rattle.refusals.proofs.Due.{answer, stop, pass, accept}
 use Rattle.table_spec.specs.Limits.{max_buses}
 use Rattle.table_spec.specs.Holds.{within, needs_in_range}
 use Rattle.file_spec.specs.FileBytes.{file_bus_count, need_bytes}

@@ -1,8 +1,8 @@
 use Rattle.std.proofs.Common.{sym, arith}
-use Rattle.refusals.specs.Causes.{no_cause}
+use Rattle.refusals.proofs.Causes.{no_cause}
 use Rattle.file_spec.specs.FileBytes.{file_bus_count}
 use Rattle.file_spec.specs.Sections.{bus_section_causes}
-use Rattle.file_spec.specs.SoundSections.{buses_passed}
+use Rattle.file_spec.proofs.SoundSections.{buses_passed}
 use Rattle.file_sections.proofs.judge.Goals as goal
 
 -- The first section decides, or else what follows it.

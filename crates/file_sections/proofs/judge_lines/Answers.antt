@@ -1,8 +1,8 @@
 use Rattle.std.proofs.Common.{sym, arith}
-use Rattle.refusals.specs.Causes.{no_cause}
+use Rattle.refusals.proofs.Causes.{no_cause}
 use Rattle.file_spec.specs.FileBytes.{file_line_count}
 use Rattle.file_spec.specs.Sections.{line_count_causes}
-use Rattle.file_spec.specs.SoundSections.{lines_passed}
+use Rattle.file_spec.proofs.SoundSections.{lines_passed}
 use Rattle.file_sections.proofs.judge_lines.Goals as goal
 
 -- The line count decides, or else where the file ends.

@@ -1,6 +1,6 @@
 use Rattle.std.proofs.Common.{[], ℕ, ap₂, arith}
 use Rattle.refusals.specs.Outcomes.{gives}
-use Rattle.refusals.specs.Due.{answer, stage_stop}
+use Rattle.refusals.proofs.Due.{answer, stage_stop}
 use Rattle.file_spec.specs.FileBytes.{file_weight_count, records_end}
 use Rattle.file_spec.specs.Sections.{weight_section_causes, counts}
 use Rattle.file_sections.proofs.Lengths.{longer, all_read}

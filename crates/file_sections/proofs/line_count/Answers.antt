@@ -1,5 +1,5 @@
 use Rattle.std.proofs.Common.{◌≡◌, ◌+◌, not, refl, sym, ap, ◌∙◌, arith}
-use Rattle.refusals.specs.Due.{answer, stop, pass, accept}
+use Rattle.refusals.proofs.Due.{answer, stop, pass, accept}
 use Rattle.table_spec.specs.Limits.{max_lines}
 use Rattle.table_spec.specs.Holds.{within}
 use Rattle.file_spec.specs.FileBytes.{word_at, file_line_count}

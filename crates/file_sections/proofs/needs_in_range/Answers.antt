@@ -1,6 +1,6 @@
 use Rattle.std.proofs.Common.{sym, ◌∙◌, arith}
 use Rattle.lists.specs.Lists.{at}
-use Rattle.lists.specs.Loops.{all_below_start, all_below_more, all_below_fails, all_below_done}
+use Rattle.lists.proofs.Loops.{all_below_start, all_below_more, all_below_fails, all_below_done}
 use Rattle.table_spec.specs.Holds.{in_range}
 use Rattle.file_sections.proofs.needs_in_range.Goals as goal
 

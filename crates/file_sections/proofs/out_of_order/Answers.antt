@@ -1,5 +1,5 @@
 use Rattle.std.proofs.Common.{sym, ◌∙◌, arith}
-use Rattle.lists.specs.Loops.{any_below_start, any_below_by, any_below_more}
+use Rattle.lists.proofs.Loops.{any_below_start, any_below_by, any_below_more}
 use Rattle.file_spec.specs.RecordOrder.{out_of_order}
 use Rattle.file_sections.proofs.out_of_order.Goals as goal
 

@@ -1,5 +1,5 @@
 use Rattle.std.proofs.Common.{refl, arith}
-use Rattle.refusals.specs.Due.{answer, stop, pass, accept}
+use Rattle.refusals.proofs.Due.{answer, stop, pass, accept}
 use Rattle.file_spec.specs.FileBytes.{records_end}
 use Rattle.file_spec.specs.Sections.{missing_causes}
 use Rattle.file_sections.proofs.Lengths.{cut, reaches}

@@ -1,6 +1,6 @@
 use Rattle.std.proofs.Common.{sym, ◌∙◌, below_more, arith}
-use Rattle.lists.specs.Tests.{fails, never_both}
-use Rattle.file_spec.specs.SoundSections.{two_facts, two_test, ends_facts, ends_test}
+use Rattle.lists.proofs.Tests.{fails, never_both}
+use Rattle.file_spec.proofs.SoundSections.{two_facts, two_test, ends_facts, ends_test}
 use Rattle.file_sections.proofs.sound_ends.Goals as goal
 
 pub returns-then-not-two_buses : goal.returns-then-not-two_buses

@@ -1,7 +1,7 @@
 use Rattle.std.proofs.Common.{sym, arith, lt-ltb}
-use Rattle.lists.specs.Tests.{fails}
+use Rattle.lists.proofs.Tests.{fails}
 use Rattle.file_spec.specs.Sections.{two_buses}
-use Rattle.file_spec.specs.SoundSections.{two_facts}
+use Rattle.file_spec.proofs.SoundSections.{two_facts}
 use Rattle.file_sections.proofs.two_buses.Goals as goal
 
 pub returns-then-n-a : goal.returns-then-n-a

@@ -1,7 +1,7 @@
 use Rattle.std.proofs.Common.{◌≡◌, ◌+◌, ◌-◌, ◌*◌, take, drop, sym, ap, ap₂, ◌∙◌, arith}
 use Rattle.lists.specs.Lists.{part}
 use Rattle.file_spec.specs.FileBytes.{weight_bytes}
-use Rattle.file_spec.specs.WeightBytes.{weight_bytes-none}
+use Rattle.file_spec.proofs.WeightBytes.{weight_bytes-none}
 use Rattle.file_sections.proofs.weight_bytes.Goals as goal
 
 pub returns-then-file-end : goal.returns-then-file-end

@@ -1,5 +1,5 @@
 use Rattle.std.proofs.Common.{sym, ◌∙◌, arith}
-use Rattle.file_spec.specs.WeightBytes.{weight-none, weight-word}
+use Rattle.file_spec.proofs.WeightBytes.{weight-none, weight-word}
 use Rattle.file_sections.proofs.weight_in.Goals as goal
 
 pub returns-then-section-eq0 : goal.returns-then-section-eq0

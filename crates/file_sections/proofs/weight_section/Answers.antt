@@ -1,9 +1,9 @@
 use Rattle.std.proofs.Common.{◌≡◌, not, refl, sym, ap, ◌∙◌, arith, eq-eqb, ne_eqb}
-use Rattle.refusals.specs.Due.{answer, stop, pass, accept}
+use Rattle.refusals.proofs.Due.{answer, stop, pass, accept}
 use Rattle.table_spec.specs.Holds.{weights_in_range}
 use Rattle.file_spec.specs.FileBytes.{word_at, file_weight_count, file_weights}
 use Rattle.file_spec.specs.Sections.{weight_section_causes}
-use Rattle.file_spec.specs.WeightBytes.{weights_read}
+use Rattle.file_spec.proofs.WeightBytes.{weights_read}
 use Rattle.file_sections.proofs.Lengths.{cut, reaches, longer, all_read}
 use Rattle.file_sections.proofs.weight_section.Goals as goal
 

@@ -1,9 +1,9 @@
 use Rattle.std.proofs.Common.{◌≡◌, sym, ap, ◌∙◌, arith}
-use Rattle.lists.specs.Loops.{all_below_start, all_below_more, all_below_fails, all_below_done}
+use Rattle.lists.proofs.Loops.{all_below_start, all_below_more, all_below_fails, all_below_done}
 use Rattle.table_spec.specs.Limits.{max_weight}
 use Rattle.table_spec.specs.Holds.{within}
 use Rattle.file_spec.specs.FileBytes.{weight_in}
-use Rattle.file_spec.specs.WeightBytes.{weights-range}
+use Rattle.file_spec.proofs.WeightBytes.{weights-range}
 use Rattle.file_sections.proofs.weights_in_range.Goals as goal
 
 pub loop-bus-init : goal.loop-bus-init

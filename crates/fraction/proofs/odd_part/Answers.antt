@@ -1,5 +1,5 @@
 use Rattle.std.proofs.Common.{rules}
-use Rattle.fraction.specs.Odd.{odd_part}
+use Rattle.fraction.proofs.Odd.{odd_part}
 use Rattle.fraction.proofs.odd_part.Goals as goal
 
 pub returns : goal.returns

@@ -1,7 +1,7 @@
 use Rattle.std.proofs.Common.{sym, arith, le-leb}
-use Rattle.lists.specs.Tests.{fails}
+use Rattle.lists.proofs.Tests.{fails}
 use Rattle.table_spec.specs.Holds.{within}
-use Rattle.table_spec.specs.Facts.{within_facts}
+use Rattle.table_spec.proofs.Facts.{within_facts}
 use Rattle.network.proofs.within.Goals as goal
 
 pub returns-then-x-a : goal.returns-then-x-a

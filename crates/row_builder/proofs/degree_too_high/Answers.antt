@@ -1,6 +1,6 @@
 use Rattle.std.proofs.Common.{ltb, sym, arith, lt-ltb, le-ltb}
 use Rattle.lists.specs.Lists.{at}
-use Rattle.lists.specs.Loops.{any_below_start, any_below_by, any_below_more}
+use Rattle.lists.proofs.Loops.{any_below_start, any_below_by, any_below_more}
 use Rattle.table_spec.specs.Limits.{max_degree}
 use Rattle.row_builder.proofs.degree_too_high.Goals as goal
 

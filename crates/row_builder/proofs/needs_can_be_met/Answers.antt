@@ -1,6 +1,6 @@
 use Rattle.std.proofs.Common.{◌≡◌, sym, ap, ◌∙◌, arith}
 use Rattle.lists.specs.Lists.{at}
-use Rattle.lists.specs.Loops.{all_below_start, all_below_more, all_below_fails}
+use Rattle.lists.proofs.Loops.{all_below_start, all_below_more, all_below_fails}
 use Rattle.table_spec.specs.Holds.{can_be_met}
 use Rattle.row_builder.proofs.needs_can_be_met.Goals as goal
 

@@ -1,10 +1,10 @@
 use Rattle.std.proofs.Common.{List, [], ◌∷◌, ◌++◌, ◌≡◌, ℕ, ◌+◌, ◌≤◌, ◌<◌, length, set, refl, sym, ap, ◌∙◌, arith}
 use Rattle.lists.specs.Lists.{at, put}
 use Rattle.lists.specs.Below.{sum_below, map_below, join_below}
-use Rattle.lists.specs.Loops.{by_end, sum_below-next, map_below-next}
-use Rattle.lists.specs.SumsBelow.{sum_below-next-le}
-use Rattle.lists.specs.JoinBelow.{length-map_below, map_below-at}
-use Rattle.lists.specs.Writes.{put-none, at_front, behind-front, stored-length, stored_entry}
+use Rattle.lists.proofs.Loops.{by_end, sum_below-next, map_below-next}
+use Rattle.lists.proofs.SumsBelow.{sum_below-next-le}
+use Rattle.lists.proofs.JoinBelow.{length-map_below, map_below-at}
+use Rattle.lists.proofs.Writes.{put-none, at_front, behind-front, stored-length, stored_entry}
 use Rattle.row_builder.proofs.store_starts.Goals as goal
 
 abbrev starts : List ℕ → ℕ → ℕ

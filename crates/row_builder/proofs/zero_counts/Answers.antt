@@ -1,6 +1,6 @@
 use Rattle.std.proofs.Common.{ℕ}
 use lib.ListN.{length-replicate}
-use Rattle.lists.specs.Places.{at-zeros}
+use Rattle.lists.proofs.Places.{at-zeros}
 use Rattle.table_spec.specs.Limits.{max_buses}
 use Rattle.row_builder.proofs.zero_counts.Goals as goal
 

@@ -3,11 +3,11 @@ use Rattle.std.proofs.Math.Nat.{mul-le-mul}
 use Rattle.lists.specs.Lists.{at}
 use Rattle.table_spec.specs.Limits.{max_degree, max_weight}
 use Rattle.game.specs.Game.{neighbour_term, Whole}
-use Rattle.game.specs.Terms.{whole_degree}
-use Rattle.share_spec.specs.TermBounds.{term_le}
+use Rattle.game.proofs.Terms.{whole_degree}
+use Rattle.share_spec.proofs.TermBounds.{term_le}
 use Rattle.share_terms.specs.Unit.{unit, Divided}
-use Rattle.share_terms.specs.TermUnits.{unit-le, unit_term}
-use Rattle.share_terms.specs.RowTerms.{left_fits, row_room, terms_added}
+use Rattle.share_terms.proofs.TermUnits.{unit-le, unit_term}
+use Rattle.share_terms.proofs.RowTerms.{left_fits, row_room, terms_added}
 use Rattle.share_terms.proofs.add_terms.Goals as goal
 
 -- What a bus of weight 1 would give to each in its row, and what it keeps.

@@ -1,7 +1,8 @@
 use Rattle.std.proofs.Common.{arith, ℕ, ◌≡◌, ◌+◌, subst, replicate, length, set}
 use Rattle.std.proofs.lemmas.List.{length-replicate}
-use Rattle.lists.specs.Places.{at-zeros}
-use Rattle.lists.specs.Writes.{Copied, copied_none, copied_entry}
+use Rattle.lists.proofs.Places.{at-zeros}
+use Rattle.lists.specs.Writes.{Copied}
+use Rattle.lists.proofs.Writes.{copied_none, copied_entry}
 use Rattle.share_terms.proofs.clear.Goals as goal
 
 pub loop-bus-init : goal.loop-bus-init

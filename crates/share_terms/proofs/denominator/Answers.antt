@@ -2,7 +2,7 @@ use Rattle.std.proofs.Common.{arith, ap, ◌∙◌, suc, ◌+◌}
 use Rattle.lists.specs.Below.{map_below}
 use Rattle.fraction.specs.Divisors.{lcm_all}
 use Rattle.share_spec.specs.TableNetwork.{divisors_of}
-use Rattle.share_spec.specs.TableGame.{largest_le}
+use Rattle.share_spec.proofs.TableGame.{largest_le}
 use Rattle.share_terms.proofs.denominator.Goals as goal
 
 pub overflow_add-largest_degree : goal.overflow_add-largest_degree

@@ -1,6 +1,6 @@
 use Rattle.std.proofs.Common.{arith, ◌≡◌, refl, ap, ◌∙◌, length}
 use Rattle.lists.specs.Below.{largest_below}
-use Rattle.lists.specs.Loops.{by_end, largest_below_rises, largest_below_stays}
+use Rattle.lists.proofs.Loops.{by_end, largest_below_rises, largest_below_stays}
 use Rattle.table_spec.specs.Layout.{degree}
 use Rattle.share_spec.specs.TableNetwork.{largest_degree}
 use Rattle.share_terms.proofs.largest_degree.Goals as goal

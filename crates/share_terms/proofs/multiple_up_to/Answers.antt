@@ -1,5 +1,5 @@
 use Rattle.std.proofs.Common.{arith, ◌≡◌, ◌∙◌, ◌+◌, ◌-◌, ◌/◌}
-use Rattle.lists.specs.Loops.{by_end}
+use Rattle.lists.proofs.Loops.{by_end}
 use Rattle.share_terms.proofs.Upper.{upper, upper_start, upper-next, upper-le, upper_half}
 use Rattle.share_terms.proofs.multiple_up_to.Goals as goal
 

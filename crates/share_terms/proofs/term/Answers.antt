@@ -1,6 +1,6 @@
 -- Each arm's value is its case's fraction of L.
 use Rattle.std.proofs.Common.{arith, ◌<◌}
-use Rattle.share_terms.specs.CaseLaws.{cases_cover, need_above_degree_lem, need_equal_to_degree, need-one, need_between}
+use Rattle.share_terms.proofs.CaseLaws.{cases_cover, need_above_degree_lem, need_equal_to_degree, need-one, need_between}
 use Rattle.share_terms.proofs.term.Goals as goal
 
 pub returns-in-1 : goal.returns-in-1

@@ -1,4 +1,4 @@
-use Rattle.signed.specs.SignedBits.{less_read}
+use Rattle.signed.proofs.SignedBits.{less_read}
 use Rattle.signed.proofs.less.Goals as goal
 
 pub returns : goal.returns

@@ -1,6 +1,6 @@
 use Rattle.std.proofs.Common.{◌≡◌, ◌-◌, set, take, arith}
 use Rattle.lists.specs.Lists.{at, put}
-use Rattle.lists.specs.Loops.{by_end}
+use Rattle.lists.proofs.Loops.{by_end}
 use Rattle.sorted_row.specs.Shifting.{insert_at}
 use Rattle.sorted_row.proofs.Shifts.{shifted_none, shifted_more, shifted_last}
 use Rattle.sorted_row.proofs.shift_in.Goals as goal

@@ -1,6 +1,6 @@
 use Rattle.std.proofs.Common.{sym, arith}
-use Rattle.lists.specs.Tests.{fails, never_both}
-use Rattle.table_spec.specs.Facts.{within_facts, within_test, complete_facts, complete-read}
+use Rattle.lists.proofs.Tests.{fails, never_both}
+use Rattle.table_spec.proofs.Facts.{within_facts, within_test, complete_facts, complete-read}
 use Rattle.table_check.proofs.complete.Goals as goal
 
 pub returns-then-not-within : goal.returns-then-not-within

@@ -1,6 +1,6 @@
 use Rattle.std.proofs.Common.{sym, arith}
-use Rattle.lists.specs.Tests.{fails, never_both}
-use Rattle.table_spec.specs.Facts.{complete_facts, complete_test, two_way_test, holds_facts, steps_read, holds_read}
+use Rattle.lists.proofs.Tests.{fails, never_both}
+use Rattle.table_spec.proofs.Facts.{complete_facts, complete_test, two_way_test, holds_facts, steps_read, holds_read}
 use Rattle.table_check.proofs.holds.Goals as goal
 
 pub returns-then-table-lt1 : goal.returns-then-table-lt1

@@ -1,5 +1,5 @@
 use Rattle.std.proofs.Common.{sym, arith}
-use Rattle.table_spec.specs.Facts.{rows_facts, room_read, two_way_fails, two_way_read}
+use Rattle.table_spec.proofs.Facts.{rows_facts, room_read, two_way_fails, two_way_read}
 use Rattle.table_check.proofs.two_way.Goals as goal
 
 pub sound_rows-requires : goal.sound_rows-requires

@@ -1,7 +1,7 @@
 use Rattle.std.proofs.Common.{◌≡◌, List, ℕ, Bool, false, ◌&&◌, ◌-◌, ◌<◌, length, sym, ap, ap₂, ◌∙◌, arith, rules}
 use Rattle.lists.specs.Lists.{at}
-use Rattle.lists.specs.Tests.{fails, never_both, and_fails_left, and_both, and_right}
-use Rattle.lists.specs.Loops.{all_below_start, all_below_more, all_below_fails, all_below_done}
+use Rattle.lists.proofs.Tests.{fails, never_both, and_fails_left, and_both, and_right}
+use Rattle.lists.proofs.Loops.{all_below_start, all_below_more, all_below_fails, all_below_done}
 use Rattle.table_spec.specs.Limits.{max_need, max_weight}
 use Rattle.table_spec.specs.Holds.{within, in_range, needs_in_range, weights_in_range, can_be_met}
 use Rattle.table_check.proofs.valid_buses.Goals as goal

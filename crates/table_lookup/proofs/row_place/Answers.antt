@@ -1,10 +1,10 @@
 use Rattle.std.proofs.Common.{◌≡◌, ◌<◌, List, ℕ, true, refl, sym, ap, ap₂, length, arith}
-use Rattle.refusals.specs.Due.{accept}
+use Rattle.refusals.proofs.Due.{accept}
 use Rattle.table_spec.specs.Layout.{bus_count}
 use Rattle.table_spec.specs.Holds.{holds, Scorable}
-use Rattle.table_spec.specs.Facts.{holds_facts}
-use Rattle.table_spec.specs.TableCauses.{on_held, on_bus}
-use Rattle.table_spec.specs.RowPlaces.{placed}
+use Rattle.table_spec.proofs.Facts.{holds_facts}
+use Rattle.table_spec.proofs.TableCauses.{on_held, on_bus}
+use Rattle.table_spec.proofs.RowPlaces.{placed}
 use Rattle.table_lookup.proofs.row_place.Goals as goal
 
 -- a slice that holds a network has the bus

@@ -1,8 +1,8 @@
 use Rattle.std.proofs.Common.{arith, ◌≡◌, sym, ap, ◌∙◌, ◌+◌, ◌/◌, length}
 use Rattle.lists.specs.Lists.{put}
-use Rattle.lists.specs.Writes.{stored_entry, written_entry}
+use Rattle.lists.proofs.Writes.{stored_entry, written_entry}
 use Rattle.text.specs.Text.{decimal}
-use Rattle.text.specs.Decimal.{decimal_small, decimal-large, length_small, length-large}
+use Rattle.text.proofs.Decimal.{decimal_small, decimal-large, length_small, length-large}
 use Rattle.text.proofs.+decimal.Goals as goal
 
 pub bounds-out-at : goal.bounds-out-at

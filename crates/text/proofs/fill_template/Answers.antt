@@ -1,8 +1,9 @@
 use Rattle.std.proofs.Common.{arith, rules, refl, sym, ap, ◌∙◌, ◌+◌, ◌<◌, length, [], ◌∷◌}
 use Rattle.lists.specs.Lists.{at, put}
-use Rattle.lists.specs.Writes.{put-none, stored-length, stored_entry, stored_list}
+use Rattle.lists.proofs.Writes.{put-none, stored-length, stored_entry, stored_list}
 use Rattle.text.specs.Text.{decimal, filled}
-use Rattle.text.specs.Templates.{filled-le, Step, sign_step, sign_there, byte_step}
+use Rattle.text.specs.Templates.{Step}
+use Rattle.text.proofs.Templates.{filled-le, sign_step, sign_there, byte_step}
 use Rattle.text.proofs.fill_template.Goals as goal
 use Rattle.text.proofs.fill_template.Goals.{then-byte-eq35, else-byte-eq35}
 

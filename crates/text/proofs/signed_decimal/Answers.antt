@@ -1,8 +1,8 @@
 use Rattle.std.proofs.Common.{arith, ◌≡◌, ◌+◌, ◌≤◌, refl, ap, [], ◌∷◌, length, length-set, w64}
 use Rattle.std.proofs.lemmas.Int.{to_z-of_z}
-use Rattle.lists.specs.Writes.{written_entry, written-append}
+use Rattle.lists.proofs.Writes.{written_entry, written-append}
 use Rattle.text.specs.Text.{decimal, minus, signed_decimal}
-use Rattle.text.specs.SignedDecimal.{signed_below, signed_above}
+use Rattle.text.proofs.SignedDecimal.{signed_below, signed_above}
 use Rattle.text.proofs.signed_decimal.Goals as goal
 
 pub bounds-out-at : goal.bounds-out-at

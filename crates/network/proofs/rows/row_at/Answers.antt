@@ -1,4 +1,4 @@
-use Rattle.table_spec.specs.Rows.{row_read}
+use Rattle.table_spec.proofs.Rows.{row_read}
 use Rattle.network.proofs.rows.row_at.Goals as goal
 
 pub returns : goal.returns

@@ -1,4 +1,4 @@
-use Rattle.table_spec.specs.LineCount.{half}
+use Rattle.table_spec.proofs.LineCount.{half}
 use Rattle.network.proofs.table.lines.Goals as goal
 
 pub returns : goal.returns

@@ -1,5 +1,5 @@
 use Rattle.std.proofs.Common.{ap, length, arith}
-use Rattle.table_spec.specs.Rows.{length-needs}
+use Rattle.table_spec.proofs.Rows.{length-needs}
 use Rattle.network.proofs.table.need.Goals as goal
 
 pub entry-requires : goal.entry-requires

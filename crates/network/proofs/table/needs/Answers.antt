@@ -1,4 +1,4 @@
-use Rattle.table_spec.specs.Rows.{needs_read}
+use Rattle.table_spec.proofs.Rows.{needs_read}
 use Rattle.network.proofs.table.needs.Goals as goal
 
 pub returns : goal.returns

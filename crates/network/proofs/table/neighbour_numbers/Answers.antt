@@ -1,4 +1,4 @@
-use Rattle.table_spec.specs.Rows.{numbers_read}
+use Rattle.table_spec.proofs.Rows.{numbers_read}
 use Rattle.network.proofs.table.neighbour_numbers.Goals as goal
 
 pub returns : goal.returns

@@ -1,5 +1,5 @@
 use Rattle.std.proofs.Common.{◌∙◌}
-use Rattle.table_spec.specs.Rows.{row_lies, row_in}
+use Rattle.table_spec.proofs.Rows.{row_lies, row_in}
 use Rattle.network.proofs.table.neighbours.Goals as goal
 
 pub row_at-requires : goal.row_at-requires

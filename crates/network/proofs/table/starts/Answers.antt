@@ -1,4 +1,4 @@
-use Rattle.table_spec.specs.Rows.{starts_read}
+use Rattle.table_spec.proofs.Rows.{starts_read}
 use Rattle.network.proofs.table.starts.Goals as goal
 
 pub returns : goal.returns

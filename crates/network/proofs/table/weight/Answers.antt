@@ -1,5 +1,5 @@
 use Rattle.std.proofs.Common.{ap, length, arith}
-use Rattle.table_spec.specs.Rows.{length-weights}
+use Rattle.table_spec.proofs.Rows.{length-weights}
 use Rattle.network.proofs.table.weight.Goals as goal
 
 pub entry-requires : goal.entry-requires

@@ -1,6 +1,6 @@
 use Rattle.std.proofs.Common.{ap₂, ◌∙◌}
 use Rattle.lists.specs.Lists.{part}
-use Rattle.table_spec.specs.Rows.{weights_read}
+use Rattle.table_spec.proofs.Rows.{weights_read}
 use Rattle.network.proofs.table.weights.Goals as goal
 
 pub returns : goal.returns

@@ -1,5 +1,5 @@
 use Rattle.std.proofs.Common.{sym, lt-ltb, le-ltb}
-use Rattle.lists.specs.Tests.{and_fails_left}
+use Rattle.lists.proofs.Tests.{and_fails_left}
 use Rattle.table_check.specs.Cursors.{is_at}
 use Rattle.table_check.proofs.mirrors.is_at.Goals as goal
 

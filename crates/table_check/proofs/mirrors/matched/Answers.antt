@@ -1,8 +1,8 @@
 use Rattle.std.proofs.Common.{◌≡◌, ◌≤◌, ◌<◌, List, ℕ, length, get_or, true, refl, sym, ap, ap₂, ◌∙◌, arith, rules}
 use Rattle.lists.specs.Lists.{at}
-use Rattle.lists.specs.Loops.{all_below_start, all_below_more, all_below_fails}
+use Rattle.lists.proofs.Loops.{all_below_start, all_below_more, all_below_fails}
 use Rattle.table_spec.specs.Limits.{max_buses, max_degree}
-use Rattle.table_spec.specs.Rows.{row_lies, row-le}
+use Rattle.table_spec.proofs.Rows.{row_lies, row-le}
 use Rattle.table_spec.specs.Holds.{ValidRow, Spans}
 use Rattle.table_spec.specs.Layout.{row_at}
 use Rattle.table_check.specs.Cursors.{is_at}

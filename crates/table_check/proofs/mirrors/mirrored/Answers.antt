@@ -1,9 +1,9 @@
 use Rattle.std.proofs.Common.{◌≡◌, List, ℕ, Bool, refl, sym, ◌∙◌, subst, arith, rules, not-suc-le-zero}
 use borrow.Author.Count.{below_more}
-use Rattle.lists.specs.Tests.{fails}
+use Rattle.lists.proofs.Tests.{fails}
 use Rattle.table_spec.specs.Limits.{max_buses}
-use Rattle.table_spec.specs.Facts.{mirrored_facts, mirrored_test}
-use Rattle.table_spec.specs.Rows.{row_lies}
+use Rattle.table_spec.proofs.Facts.{mirrored_facts, mirrored_test}
+use Rattle.table_spec.proofs.Rows.{row_lies}
 use Rattle.table_check.specs.Cursors.{Matched}
 use Rattle.table_check.proofs.Mirror.{none_marked, answered, all-answered, not_refused, marked}
 use Rattle.table_check.proofs.mirrors.mirrored.Goals as goal

@@ -1,6 +1,6 @@
 use Rattle.std.proofs.Common.{sym, ◌∙◌}
-use Rattle.lists.specs.Tests.{fails, never_both}
-use Rattle.table_spec.specs.Facts.{steps_facts, steps_test, rows_facts, rows-read}
+use Rattle.lists.proofs.Tests.{fails, never_both}
+use Rattle.table_spec.proofs.Facts.{steps_facts, steps_test, rows_facts, rows-read}
 use Rattle.table_check.proofs.rows.sound_rows.Goals as goal
 
 pub returns-then-entry-ne0 : goal.returns-then-entry-ne0

@@ -1,6 +1,6 @@
 use Rattle.std.proofs.Common.{sym, arith}
-use Rattle.lists.specs.Tests.{fails}
-use Rattle.table_spec.specs.Facts.{steps_facts, steps_test}
+use Rattle.lists.proofs.Tests.{fails}
+use Rattle.table_spec.proofs.Facts.{steps_facts, steps_test}
 use Rattle.table_check.proofs.rows.spans.Goals as goal
 
 pub returns-then-end-start : goal.returns-then-end-start

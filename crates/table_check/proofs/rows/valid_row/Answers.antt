@@ -1,6 +1,6 @@
 use Rattle.std.proofs.Common.{sym, arith}
-use Rattle.lists.specs.Tests.{fails}
-use Rattle.table_spec.specs.Facts.{valid_facts, valid_test}
+use Rattle.lists.proofs.Tests.{fails}
+use Rattle.table_spec.proofs.Facts.{valid_facts, valid_test}
 use Rattle.table_check.proofs.ValidEntries.{too_late, all_passed}
 use Rattle.table_check.proofs.rows.valid_row.Goals as goal
 

@@ -1,6 +1,6 @@
 use Rattle.std.proofs.Common.{sym, ap, ◌∙◌, rules}
-use Rattle.lists.specs.Loops.{all_below_start, all_below_more, all_below_fails, all_below_done}
-use Rattle.table_spec.specs.Rows.{row_lies}
+use Rattle.lists.proofs.Loops.{all_below_start, all_below_more, all_below_fails, all_below_done}
+use Rattle.table_spec.proofs.Rows.{row_lies}
 use Rattle.table_spec.specs.Holds.{valid_row, valid_rows}
 use Rattle.table_check.proofs.rows.valid_rows.Goals as goal
 

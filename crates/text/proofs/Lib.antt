@@ -1,0 +1,3 @@
+pub mod Decimal
+pub mod SignedDecimal
+pub mod Templates
