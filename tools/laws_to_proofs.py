@@ -16,6 +16,8 @@ import sys
 # A file whose module has definitions and laws in one: it moves whole, as no clause names it. A name of a file's own that a definition has for a variable.
 WHOLE = {"write_spec/WrittenBytes"}
 LAWS_OWN = {"number"}
+# Rattle makes modules for functions and types in proofs/: a file whose name differs from such a one in case alone has another name there.
+NAMED = {("fraction", "Lowest"): "LowestTerms", ("fraction", "Gcd"): "GcdLaws", ("fraction", "Lcm"): "LcmLaws", ("text", "Decimal"): "DecimalLaws"}
 STAY = re.compile(r"^starred_cases/|/\w*Examples$")
 DECL = re.compile(r"^(?P<pre>(?:(?:pub|abbrev|unfoldable) )*)(?P<n>[^\s:(){}]+) : ")
 
@@ -168,7 +170,8 @@ def main():
             continue
         comment = [l for l in head if l.startswith("--")]
         uses = [l for l in head if l.startswith("use ")]
-        to = f"crates/{crate}/proofs/{name}.antt"
+        new = NAMED.get((crate, name), name)
+        to = f"crates/{crate}/proofs/{new}.antt"
         lib = f"crates/{crate}/proofs/Lib.antt"
         if f"{crate}/{name}" not in WHOLE and any(re.match(r"^ *((abbrev|unfoldable) pub|pub (data|record))", l) for l in defs):
             write(to, with_uses(comment, uses + [f"use Rattle.{crate}.specs.{name}.{{{', '.join(sorted(names(defs)))}}}"], laws))
@@ -181,16 +184,17 @@ def main():
             write(specs, re.sub(rf"^pub mod {name}\n", "", read(specs), flags=re.M))
             gone[crate, name] = None
         have = read(lib) if os.path.exists(lib) else ""
-        if not re.search(rf"^pub mod {name}$", have, re.M):
-            write(lib, have + f"pub mod {name}\n")
+        if not re.search(rf"^pub mod {new}$", have, re.M):
+            write(lib, have + f"pub mod {new}\n")
         print(f"{crate}/{name}" + ("" if gone[crate, name] is None else ": " + " ".join(sorted(gone[crate, name]))))
     # What stands in proofs/ now, and not in specs/: found in the tree, so that files that come in later follow too.
     moved = {}
+    old = {(c, b): a for (c, a), b in NAMED.items()}
     for p in glob.glob("crates/*/proofs/*.antt"):
         crate, name = p.split("/")[1], os.path.basename(p)[:-5]
         if name != "Lib":
             spec = f"crates/{crate}/specs/{name}.antt"
-            moved[crate, name] = None if not os.path.exists(spec) else names(read(p).split("\n")) - names(read(spec).split("\n"))
+            moved[crate, old.get((crate, name), name)] = None if not os.path.exists(spec) else names(read(p).split("\n")) - names(read(spec).split("\n"))
     for p in files(".antt", ".rt", ".edit"):
         t = read(p)
 
@@ -200,7 +204,7 @@ def main():
                 return m[0]
             laws = moved[key]
             if laws is None:
-                return f"{m['pre']}Rattle.{m['c']}.proofs.{m['m']}.{{{m['n']}}}{m['post']}"
+                return f"{m['pre']}Rattle.{m['c']}.proofs.{NAMED.get(key, m['m'])}.{{{m['n']}}}{m['post']}"
             a = [n for n in m["n"].split(", ") if n.split(" as ")[0] not in laws]
             b = [n for n in m["n"].split(", ") if n.split(" as ")[0] in laws]
             out = [f"{m['pre']}Rattle.{m['c']}.{f}.{m['m']}.{{{', '.join(k)}}}{m['post']}" for f, k in (("specs", a), ("proofs", b)) if k]
@@ -209,7 +213,7 @@ def main():
         n = re.sub(r"^(?P<pre>(?:ghost )?use )Rattle\.(?P<c>\w+)\.specs\.(?P<m>\w+)\.\{(?P<n>.*)\}(?P<post>;?)$", line, t, flags=re.M)
         if p.endswith(".edit"):
             crate = p.split("/")[1]
-            n = re.sub(r"^file: specs/(\w+)\.antt$", lambda m: f"file: proofs/{m[1]}.antt" if moved.get((crate, m[1]), 0) is None else m[0], n, flags=re.M)
+            n = re.sub(r"^file: specs/(\w+)\.antt$", lambda m: f"file: proofs/{NAMED.get((crate, m[1]), m[1])}.antt" if moved.get((crate, m[1]), 0) is None else m[0], n, flags=re.M)
         if n != t:
             write(p, n)
 

@@ -6,7 +6,7 @@ use Rattle.lists.specs.Below.{map_below, range}
 use Rattle.lists.proofs.Counts.{in_length}
 use Rattle.lists.proofs.SumsBelow.{in_range_lem, of_range}
 use Rattle.lists.proofs.JoinBelow.{in_map_below, of_map_below}
-use Rattle.fraction.proofs.Lcm.{lcm_all_multiple}
+use Rattle.fraction.proofs.LcmLaws.{lcm_all_multiple}
 use Rattle.game.specs.CrowdGame.{Crowds}
 use Rattle.game.proofs.Reach.{reach_on, reach_common}
 use Rattle.table_spec.specs.Limits.{max_degree}

@@ -6,7 +6,7 @@ use native.Mathlib.Decide.{dec_le}
 use native.Mathlib.Omega.{arith}
 use lib.Count.{count_trailing_zeros}
 use Rattle.fraction.specs.Divisors.{IsGcd, gcd_of}
-use Rattle.fraction.proofs.Gcd.{gcd_is, gcd_self, gcd_comm, gcd_sub}
+use Rattle.fraction.proofs.GcdLaws.{gcd_is, gcd_self, gcd_comm, gcd_sub}
 use Rattle.fraction.specs.Odd.{OddPart}
 use Rattle.fraction.proofs.Odd.{gcd_strip, gcd_twos}
 

@@ -6,7 +6,7 @@ use Rattle.std.proofs.Math.Nat.{pow-succ', div-div-eq-div-mul, dvd_trans, dvd_of
 use Rattle.std.proofs.Math.Decide.{dec_le}
 use Rattle.std.specs.Int.Count.{count_trailing_zeros, under}
 use Rattle.fraction.specs.Divisors.{euclid, gcd_of}
-use Rattle.fraction.proofs.Gcd.{gcd_same, gcd_comm, gcd_scale, gauss}
+use Rattle.fraction.proofs.GcdLaws.{gcd_same, gcd_comm, gcd_scale, gauss}
 use Rattle.fraction.specs.Odd.{OddPart}
 
 -- of a number below 2 ^ k that is not 0, t twos are all

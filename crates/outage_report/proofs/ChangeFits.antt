@@ -7,7 +7,7 @@ use Rattle.lists.proofs.SumsBelow.{sum_below-le, sum_below_const}
 use Rattle.lists.proofs.JoinBelow.{length-join_below}
 use Rattle.signed.specs.Signed.{signed_at}
 use Rattle.signed.proofs.SignedBits.{mag_le}
-use Rattle.text.proofs.Decimal.{decimal-le}
+use Rattle.text.proofs.DecimalLaws.{decimal-le}
 use Rattle.text.proofs.SignedDecimal.{signed_decimal-le}
 use Rattle.table_spec.specs.Limits.{max_buses, max_weight}
 use Rattle.share_spec.specs.TableNetwork.{max_denominator}

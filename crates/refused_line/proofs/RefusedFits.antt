@@ -3,7 +3,7 @@ use Rattle.std.specs.Prelude.{ℕ, ◌≤◌, ◌<◌, length}
 use Rattle.std.proofs.Common.{arith, length-append}
 use Rattle.lists.specs.Lists.{at}
 use Rattle.text.specs.Text.{filled}
-use Rattle.text.proofs.Decimal.{decimal-le}
+use Rattle.text.proofs.DecimalLaws.{decimal-le}
 use Rattle.refused_line.specs.RefusedLine.{refused_line, longest_refusal}
 
 -- the line of a number of one byte fits

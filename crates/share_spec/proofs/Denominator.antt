@@ -7,7 +7,7 @@ use Rattle.lists.specs.Lists.{◌∈◌}
 use Rattle.lists.specs.Below.{join_below, map_below}
 use Rattle.lists.proofs.JoinBelow.{in_map_below, of_map_below}
 use Rattle.fraction.specs.Divisors.{gcd_of, lcm_of, lcm_all}
-use Rattle.fraction.proofs.Lcm.{lcm_all_multiple, lcm_all_least, lcm_all-part}
+use Rattle.fraction.proofs.LcmLaws.{lcm_all_multiple, lcm_all_least, lcm_all-part}
 use Rattle.table_spec.specs.Limits.{max_degree}
 use Rattle.share_spec.specs.Network.{Network, denominator}
 use Rattle.share_spec.specs.TableNetwork.{max_denominator}

@@ -7,7 +7,7 @@ use Rattle.lists.proofs.Counts.{sum_by_cong_in}
 use Rattle.lists.proofs.Places.{in_at}
 use Rattle.lists.proofs.SumsBelow.{of_range}
 use Rattle.fraction.specs.Cancel.{cancelled}
-use Rattle.fraction.proofs.Lowest.{cancelled-same}
+use Rattle.fraction.proofs.LowestTerms.{cancelled-same}
 use Rattle.game.specs.Parts.{Island, Renumbered}
 use Rattle.game.proofs.Islands.{island_total, taken_out_share}
 use Rattle.share_spec.specs.Network.{Network, denominator, Sound}

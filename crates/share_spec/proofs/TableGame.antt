@@ -8,7 +8,7 @@ use Rattle.lists.proofs.Tests.{fails}
 use Rattle.lists.proofs.Counts.{has_in, has-none}
 use Rattle.lists.proofs.SumsBelow.{largest_below-at, largest_below-le, in_range_lem, of_range, range_once}
 use Rattle.fraction.specs.Divisors.{lcm_all}
-use Rattle.fraction.proofs.Lcm.{next_product, lcm_all_multiple}
+use Rattle.fraction.proofs.LcmLaws.{next_product, lcm_all_multiple}
 use Rattle.game.specs.Game.{GameOn, Whole, Common}
 use Rattle.game.proofs.Terms.{whole_degree}
 use Rattle.table_spec.specs.Limits.{max_degree}

@@ -10,7 +10,7 @@ use Rattle.lists.specs.Below.{join_below, map_below}
 use Rattle.lists.proofs.Tests.{split}
 use Rattle.lists.proofs.JoinBelow.{in_map_below, of_map_below}
 use Rattle.fraction.specs.Divisors.{lcm_of, lcm_all}
-use Rattle.fraction.proofs.Lcm.{lcm_all_multiple, lcm_all_least, lcm_all-next}
+use Rattle.fraction.proofs.LcmLaws.{lcm_all_multiple, lcm_all_least, lcm_all-next}
 use Rattle.table_spec.specs.Limits.{max_degree}
 use Rattle.share_spec.specs.TableNetwork.{max_denominator}
 use Rattle.share_spec.proofs.Denominator.{up_to, of_up_to, multiple_le}

@@ -5,7 +5,7 @@ use Rattle.lists.specs.Lists.{at}
 use Rattle.lists.proofs.Loops.{sum_below-next}
 use Rattle.lists.proofs.SumsBelow.{sum_below_grows}
 use Rattle.text.specs.Text.{decimal, filled}
-use Rattle.text.proofs.Decimal.{decimal-le}
+use Rattle.text.proofs.DecimalLaws.{decimal-le}
 use Rattle.table_spec.specs.Limits.{max_buses, max_weight}
 use Rattle.table_spec.specs.Holds.{Holds}
 use Rattle.table_spec.proofs.LineCount.{lines-le}

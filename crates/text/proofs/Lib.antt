@@ -1,3 +1,3 @@
-pub mod Decimal
+pub mod DecimalLaws
 pub mod SignedDecimal
 pub mod Templates

@@ -3,7 +3,7 @@ use Rattle.std.specs.Prelude.{Bool, true, false, not, ◌∷◌, ◌≡◌, refl
 use Rattle.std.proofs.Common.{true≢false, sym, ap, ◌∙◌, arith}
 use Rattle.std.specs.Int.Signed.{non_neg}
 use Rattle.text.specs.Text.{decimal, minus, signed_decimal}
-use Rattle.text.proofs.Decimal.{decimal-le}
+use Rattle.text.proofs.DecimalLaws.{decimal-le}
 
 below : (z : ℤ) → not (non_neg z) ≡ true → signed_decimal z ≡ minus ∷ decimal (nat_abs z)
 unfolding signed_decimal

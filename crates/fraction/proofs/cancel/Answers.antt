@@ -2,7 +2,7 @@
 use Rattle.std.proofs.Common.{arith, sym, ap, subst, ◌∙◌}
 use Rattle.refusals.specs.Outcomes.{gives}
 use Rattle.fraction.specs.Cancel.{CancelRule}
-use Rattle.fraction.proofs.Lowest.{cancel_refused, cancel_divided, cancel_rule}
+use Rattle.fraction.proofs.LowestTerms.{cancel_refused, cancel_divided, cancel_rule}
 use Rattle.fraction.proofs.cancel.Goals as goal
 
 pub returns-then-denominator-eq0-clause-answer : goal.returns-then-denominator-eq0-clause-answer

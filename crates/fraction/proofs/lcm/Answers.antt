@@ -2,8 +2,8 @@
 use Rattle.std.proofs.Common.{arith, ℕ, ◌≡◌, sym, ap, ◌∙◌, ◌*◌, ◌/◌, ◌%◌, div-one}
 use Rattle.std.proofs.Math.Nat.{pos_of_dvd_of_pos}
 use Rattle.fraction.specs.Divisors.{IsGcd, IsLcm, lcm_of}
-use Rattle.fraction.proofs.Gcd.{gcd_flip, gcd_step}
-use Rattle.fraction.proofs.Lcm.{lcm_is, lcm_zero, lcm_by_gcd}
+use Rattle.fraction.proofs.GcdLaws.{gcd_flip, gcd_step}
+use Rattle.fraction.proofs.LcmLaws.{lcm_is, lcm_zero, lcm_by_gcd}
 use Rattle.fraction.proofs.lcm.Goals as goal
 
 divided : (b : ℕ) {a g : ℕ} → IsGcd a (b % a) g → a / g * b ≡ lcm_of a b

@@ -1,6 +1,6 @@
 use Rattle.std.proofs.Common.{◌/◌, ap}
 use Rattle.std.proofs.Math.Nat.{pos_of_dvd_of_pos}
-use Rattle.fraction.proofs.Gcd.{is_gcd_of}
+use Rattle.fraction.proofs.GcdLaws.{is_gcd_of}
 use Rattle.fraction.proofs.reduce.Goals as goal
 
 pub nonzero_div-result : goal.nonzero_div-result

@@ -2,7 +2,7 @@ use Rattle.std.proofs.Common.{arith, ◌≡◌, sym, ap, ◌∙◌, ◌+◌, ◌
 use Rattle.lists.specs.Lists.{put}
 use Rattle.lists.proofs.Writes.{stored_entry, written_entry}
 use Rattle.text.specs.Text.{decimal}
-use Rattle.text.proofs.Decimal.{decimal_small, decimal-large, length_small, length-large}
+use Rattle.text.proofs.DecimalLaws.{decimal_small, decimal-large, length_small, length-large}
 use Rattle.text.proofs.+decimal.Goals as goal
 
 pub bounds-out-at : goal.bounds-out-at

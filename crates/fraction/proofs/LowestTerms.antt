@@ -6,7 +6,7 @@ use Rattle.std.proofs.Math.Nat.{mul-div-mul_right, zero-div, div_self, div-mul_c
 use Rattle.refusals.specs.Outcomes.{Outcome, gives, refuses}
 use Rattle.fraction.specs.Divisors.{gcd_of}
 use Rattle.fraction.specs.Cancel.{cancelled, cancel_outcome, CancelsTo, CancelRule}
-use Rattle.fraction.proofs.Gcd.{gcd_zero, gcd_flip, gcd_is, gcd_unique, is_gcd_of, gcd_scale}
+use Rattle.fraction.proofs.GcdLaws.{gcd_zero, gcd_flip, gcd_is, gcd_unique, is_gcd_of, gcd_scale}
 
 -- ---- the rule
 

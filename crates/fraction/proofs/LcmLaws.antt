@@ -9,7 +9,7 @@ use Rattle.lists.proofs.Tests.{split}
 use Rattle.lists.proofs.Counts.{in_first, count-append}
 use Rattle.lists.proofs.Loops.{map_below-next}
 use Rattle.fraction.specs.Divisors.{IsGcd, gcd_of, IsLcm, lcm_of, lcm_all, CommonMultiple}
-use Rattle.fraction.proofs.Gcd.{gcd_is, is_gcd_of, gcd_scale}
+use Rattle.fraction.proofs.GcdLaws.{gcd_is, is_gcd_of, gcd_scale}
 
 -- ---- `lcm_of` is the least common multiple
 
