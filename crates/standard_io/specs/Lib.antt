@@ -1,2 +1,2 @@
--- What the reading of the input promises: definitions, and a law.
+-- What the reading of the input promises.
 pub mod Input

@@ -2,7 +2,7 @@
 #![tactic(auto)]
 
 ghost use Rattle.std.specs.Prelude.{◌≤◌, length};
-ghost use Rattle.standard_io.specs.Input.{Within};
+ghost use Rattle.standard_io.specs.Input.{Within, ReadsSome, ReadsAll};
 
 use std::io::{Cursor, Error, Read, Write};
 
@@ -15,7 +15,8 @@ pub enum Input {
 
 // One read, of at most as many bytes as the buffer has; 0 say that the input has ended.
 fn read_some<R: Read>(input: &mut R, buffer: &mut [u8]) -> Input
-    ensures { Within result (length buffer.new) }
+    ensures within { Within result (length buffer.new) }
+    ensures bytes { ReadsSome (R.remaining input.old) (R.remaining input.new) result buffer.new }
 {
     match input.read(buffer) {
         Ok(bytes) => Input::Bytes(bytes),
@@ -25,7 +26,8 @@ fn read_some<R: Read>(input: &mut R, buffer: &mut [u8]) -> Input
 
 // Reads until the buffer is full, the input ends or a read fails. std's `read_exact` does not say how many bytes an input had that ends early.
 pub fn read_input<R: Read>(input: &mut R, buffer: &mut [u8]) -> Input
-    ensures { Within result (length buffer.new) }
+    ensures within { Within result (length buffer.new) }
+    ensures bytes { ReadsAll (R.remaining input.old) (R.remaining input.new) result buffer.new }
 {
     let mut bytes = 0;
     while bytes < buffer.len() {
