@@ -1,11 +1,11 @@
 use Rattle.std.proofs.Common.{length, sym, ap, ◌∙◌, arith}
-use Rattle.refusals.specs.Due.{stage_stop}
+use Rattle.refusals.proofs.Due.{stage_stop}
 use Rattle.file_spec.specs.FileBytes.{file_bus_count, need_bytes, file_line_count, records}
 use Rattle.file_spec.specs.Sections.{section_causes, counts}
-use Rattle.file_spec.specs.SoundSections.{length-need_bytes, length-records, weights-complete}
+use Rattle.file_spec.proofs.SoundSections.{length-need_bytes, length-records, weights-complete}
 use Rattle.read_spec.specs.ReadOutcome.{record_causes}
-use Rattle.read_spec.specs.Recorded.{read_recorded}
-use Rattle.read_spec.specs.ReadDecides.{sound, counted, records_decide}
+use Rattle.read_spec.proofs.Recorded.{read_recorded}
+use Rattle.read_spec.proofs.ReadDecides.{sound, counted, records_decide}
 use Rattle.reader.proofs.read.Goals as goal
 
 -- The sections decide, or else the records.

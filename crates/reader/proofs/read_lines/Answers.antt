@@ -1,8 +1,8 @@
 use Rattle.std.proofs.Common.{◌≡◌, false, not, ℕ, length, refl, sym, ap, ◌∙◌, arith}
-use Rattle.refusals.specs.Due.{stop, pass, below, not-below, accept}
+use Rattle.refusals.proofs.Due.{stop, pass, below, not-below, accept}
 use Rattle.table_spec.specs.Layout.{table_entries}
 use Rattle.file_spec.specs.Records.{degree_too_high, need_above_degree, pair_count}
-use Rattle.file_spec.specs.RecordPairs.{pair_count-le}
+use Rattle.file_spec.proofs.RecordPairs.{pair_count-le}
 use Rattle.reader.proofs.Building.{too_high_counted, above_counted}
 use Rattle.reader.proofs.read_lines.Goals as goal
 

@@ -1,5 +1,5 @@
 use Rattle.std.proofs.Common.{sym, ◌∙◌}
-use Rattle.file_spec.specs.SoundSections.{ends_facts}
+use Rattle.file_spec.proofs.SoundSections.{ends_facts}
 use Rattle.reader.proofs.read_records.Goals as goal
 
 pub read_lines-requires : goal.read_lines-requires

@@ -1,7 +1,7 @@
 use Rattle.std.proofs.Common.{[], ◌∷◌, ◌≡◌, ◌+◌, length, take, refl, sym, ap, ◌∙◌, arith, length-take-le}
 use Rattle.lists.specs.Lists.{at, put}
-use Rattle.lists.specs.Places.{take_next}
-use Rattle.lists.specs.Writes.{put-none, stored_entry}
+use Rattle.lists.proofs.Places.{take_next}
+use Rattle.lists.proofs.Writes.{put-none, stored_entry}
 use Rattle.reader.proofs.store_needs.Goals as goal
 
 pub loop-bus-init : goal.loop-bus-init

@@ -1,5 +1,5 @@
 use Rattle.std.proofs.Common.{length, arith}
-use Rattle.lists.specs.JoinBelow.{length-map_below}
+use Rattle.lists.proofs.JoinBelow.{length-map_below}
 use Rattle.file_spec.specs.FileBytes.{weight_in}
 use Rattle.file_spec.specs.Records.{neighbours}
 use Rattle.reader.proofs.Building.{laid-length, built}

@@ -1,9 +1,9 @@
 use Rattle.std.proofs.Common.{[], ◌∷◌, ◌++◌, ◌≡◌, ◌+◌, length, sym, ap, ◌∙◌, arith}
 use Rattle.lists.specs.Lists.{put}
 use Rattle.lists.specs.Below.{join_below, map_below}
-use Rattle.lists.specs.JoinBelow.{length-map_below}
-use Rattle.lists.specs.Loops.{map_below-next}
-use Rattle.lists.specs.Writes.{put-none, stored_entry}
+use Rattle.lists.proofs.JoinBelow.{length-map_below}
+use Rattle.lists.proofs.Loops.{map_below-next}
+use Rattle.lists.proofs.Writes.{put-none, stored_entry}
 use Rattle.file_spec.specs.FileBytes.{weight_in}
 use Rattle.reader.proofs.store_weights.Goals as goal
 
