@@ -1,11 +1,5 @@
 -- What the stores of Read leave: a table, followed by the old rest.
-use mathlib.Core.Bool.{not}
-use mathlib.Core.List.{List, ◌∷◌, ◌++◌}
-use mathlib.Core.Path.{◌≡◌, ap, ◌∙◌}
-use Prim.Native.Nat.{ℕ, ◌+◌, ◌*◌}
-use native.Mathlib.Omega.{arith}
-use lib.Dec.{ltb}
-use lib.ListN.{length, length-append}
+use Rattle.std.proofs.Common.{not, List, ◌∷◌, ◌++◌, ◌≡◌, ap, ◌∙◌, ℕ, ◌+◌, ◌*◌, arith, ltb, length, length-append}
 use Rattle.lists.specs.Lists.{at, put}
 use Rattle.lists.specs.Below.{any_below}
 use Rattle.lists.proofs.Loops.{any_below-same}
