@@ -1,0 +1,14 @@
+use Rattle.std.proofs.Common.{arith, ap, length}
+use Rattle.table_spec.specs.Rows.{degree-le}
+use Rattle.share_terms.specs.TermUnits.{term_asks, term_read}
+use Rattle.scorer.proofs.given.Goals as goal
+
+pub unit-requires : goal.unit-requires
+unit-requires c = omega (arith, ap length c.neighbours-degree.ensures, degree-le c.requires.0 c.args.bus c.requires.1)
+
+pub term-requires : goal.term-requires
+term-requires c = term_asks c.requires.0 c.requires.2 c.requires.1 (ap length c.neighbours-degree.ensures) c.need-need.ensures c.unit.ensures
+
+pub returns : goal.returns
+returns c =
+    term_read c.requires.0 c.requires.2 c.requires.1 (ap length c.neighbours-degree.ensures) c.need-need.ensures c.unit.ensures c.term.ensures

@@ -1,0 +1,24 @@
+-- Lines run both ways, so the game's formula is the scope's along the bus's own row.
+use Rattle.std.proofs.Common.{ap, ◌∙◌}
+use Rattle.lists.specs.Lists.{put}
+use Rattle.lists.specs.Below.{map_below}
+use Rattle.lists.specs.JoinBelow.{map_below-same}
+use Rattle.table_spec.specs.Layout.{bus_count}
+use Rattle.share_spec.specs.Formula.{numerator_over}
+use Rattle.share_spec.specs.FairFormula.{as_game}
+use Rattle.share_spec.specs.TableGame.{own_over}
+use Rattle.two_way.specs.TwoWay.{network_of}
+use Rattle.two_way.specs.TwoWaySound.{watching}
+use Rattle.scorer.proofs.score.Goals as goal
+
+pub score_over-requires : goal.score_over-requires
+score_over-requires c = (c.requires.0.shape, c.requires.1, own_over c.requires.0.shape c.denominator-over.ensures)
+
+pub returns-clause-numerators_after : goal.returns-clause-numerators_after
+returns-clause-numerators_after c =
+    let t = c.args.table.now in
+    let w = c.requires.0 in
+    c.score_over.ensures
+    ∙ ap (put c.args.numerators.now 0)
+    (map_below-same _ _ (bus_count t) (as_game (watching w.shape w.mirrored) c.denominator-over.result)
+    ∙ ap (λ L. map_below (bus_count t) (numerator_over (network_of t) L)) c.denominator-over.ensures)
