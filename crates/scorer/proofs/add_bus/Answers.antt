@@ -1,7 +1,7 @@
 use Rattle.std.proofs.Common.{arith, ◌<◌, ap, length}
 use Rattle.lists.specs.Lists.{at}
-use Rattle.table_spec.specs.Rows.{degree-le}
-use Rattle.share_terms.specs.RowTerms.{terms_asked}
+use Rattle.table_spec.proofs.Rows.{degree-le}
+use Rattle.share_terms.proofs.RowTerms.{terms_asked}
 use Rattle.scorer.specs.ScorerWork.{degrees}
 use Rattle.scorer.proofs.Scoring.{terms_room, all_terms}
 use Rattle.scorer.proofs.add_bus.Goals as goal

@@ -1,6 +1,6 @@
 use Rattle.std.proofs.Common.{arith, ap, length}
-use Rattle.table_spec.specs.Rows.{degree-le}
-use Rattle.share_terms.specs.TermUnits.{term_asks, term_read}
+use Rattle.table_spec.proofs.Rows.{degree-le}
+use Rattle.share_terms.proofs.TermUnits.{term_asks, term_read}
 use Rattle.scorer.proofs.given.Goals as goal
 
 pub unit-requires : goal.unit-requires

@@ -2,13 +2,13 @@
 use Rattle.std.proofs.Common.{ap, ◌∙◌}
 use Rattle.lists.specs.Lists.{put}
 use Rattle.lists.specs.Below.{map_below}
-use Rattle.lists.specs.JoinBelow.{map_below-same}
+use Rattle.lists.proofs.JoinBelow.{map_below-same}
 use Rattle.table_spec.specs.Layout.{bus_count}
 use Rattle.share_spec.specs.Formula.{numerator_over}
-use Rattle.share_spec.specs.FairFormula.{as_game}
-use Rattle.share_spec.specs.TableGame.{own_over}
+use Rattle.share_spec.proofs.FairFormula.{as_game}
+use Rattle.share_spec.proofs.TableGame.{own_over}
 use Rattle.two_way.specs.TwoWay.{network_of}
-use Rattle.two_way.specs.TwoWaySound.{watching}
+use Rattle.two_way.proofs.TwoWaySound.{watching}
 use Rattle.scorer.proofs.score.Goals as goal
 
 pub score_over-requires : goal.score_over-requires

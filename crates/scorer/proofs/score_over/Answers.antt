@@ -1,7 +1,7 @@
 use Rattle.std.proofs.Common.{arith, refl}
 use Rattle.lists.specs.Below.{sum_below}
 use Rattle.share_spec.specs.TableNetwork.{game_of}
-use Rattle.share_terms.specs.Adding.{added_none}
+use Rattle.share_terms.proofs.Adding.{added_none}
 use Rattle.scorer.proofs.Scoring.{bus_added, bus_room, all_added}
 use Rattle.scorer.proofs.score_over.Goals as goal
 

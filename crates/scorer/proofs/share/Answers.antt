@@ -1,10 +1,10 @@
 use Rattle.std.proofs.Common.{arith, refl, sym, ap₂, ◌∙◌}
-use Rattle.refusals.specs.Due.{accept}
-use Rattle.table_spec.specs.Facts.{holds_facts}
-use Rattle.table_spec.specs.TableCauses.{on_held, on_bus}
+use Rattle.refusals.proofs.Due.{accept}
+use Rattle.table_spec.proofs.Facts.{holds_facts}
+use Rattle.table_spec.proofs.TableCauses.{on_held, on_bus}
 use Rattle.two_way.specs.TwoWay.{network_of}
-use Rattle.two_way.specs.TwoWaySound.{held_sound}
-use Rattle.share_spec.specs.SharePromises.{share_promised}
+use Rattle.two_way.proofs.TwoWaySound.{held_sound}
+use Rattle.share_spec.proofs.SharePromises.{share_promised}
 use Rattle.scorer.proofs.share.Goals as goal
 
 pub bus_count-requires : goal.bus_count-requires

@@ -1,4 +1,4 @@
-use Rattle.share_spec.specs.TableGame.{own_over}
+use Rattle.share_spec.proofs.TableGame.{own_over}
 use Rattle.scorer.proofs.share_of.Goals as goal
 
 pub numerator-requires : goal.numerator-requires

@@ -1,10 +1,10 @@
 use Rattle.std.proofs.Common.{arith, refl, sym, ◌∙◌}
-use Rattle.refusals.specs.Due.{accept, not-below}
-use Rattle.table_spec.specs.Facts.{holds_facts}
-use Rattle.table_spec.specs.TableCauses.{on_held}
+use Rattle.refusals.proofs.Due.{accept, not-below}
+use Rattle.table_spec.proofs.Facts.{holds_facts}
+use Rattle.table_spec.proofs.TableCauses.{on_held}
 use Rattle.two_way.specs.TwoWay.{network_of}
-use Rattle.two_way.specs.TwoWaySound.{held_sound}
-use Rattle.share_spec.specs.SharePromises.{put_stored, shares_promised}
+use Rattle.two_way.proofs.TwoWaySound.{held_sound}
+use Rattle.share_spec.proofs.SharePromises.{put_stored, shares_promised}
 use Rattle.scorer.proofs.shares.Goals as goal
 
 pub bus_count-requires : goal.bus_count-requires

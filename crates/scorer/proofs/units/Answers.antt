@@ -1,5 +1,5 @@
 use Rattle.std.proofs.Common.{arith, ◌∙◌, length-set}
-use Rattle.lists.specs.Loops.{tabled_next}
+use Rattle.lists.proofs.Loops.{tabled_next}
 use Rattle.share_terms.specs.Unit.{unit}
 use Rattle.scorer.proofs.units.Goals as goal
 
