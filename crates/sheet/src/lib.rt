@@ -13,7 +13,6 @@ ghost use Rattle.sheet.specs.Sheet.{sheet_line};
 ghost use Rattle.sheet.specs.LineOutcomes.{text_outcome, text_after, line_outcome, line_after};
 ghost use Rattle.sheet.specs.LineRoom.{longest_line};
 
-use bytes::copy;
 use fraction::reduce;
 pub use network::Refusal;
 use network::table::{bus_count, lines, need, neighbours};
@@ -80,7 +79,8 @@ pub fn copy_text(text: &[u8], out: &mut [u8]) -> Written
     if out.len() < text.len() {
         return Written::Refused(Refusal::TextTooShort);
     }
-    Written::Bytes(copy(text, out))
+    out[..text.len()].copy_from_slice(text);
+    Written::Bytes(text.len())
 }
 
 // Writes sheet line i at the front of a lent slice. It is written aside first, since a refused call changes nothing.
