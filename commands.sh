@@ -44,9 +44,10 @@ escape_bytes() { # BYTES, as decimal numbers, and what the input is called
     escapes=$(printf '%s\n' "$1" | awk '{ for (i = 1; i <= NF; i++) printf "\\0%03o", $i }') || fail "awk could not read $2"
 }
 
-# A checksum over the names and contents of all that programs are built from.
+# A checksum over the names and contents of all that programs are built from. What rt makes, in the folder out of a crate, is none of it.
 sources() {
-    cd "$root" && find -L crates.txt crates -type f \( -name crates.txt -o -name '*.rt' -o -name '*.antt' \) -print0 |
+    cd "$root" && find -L crates.txt crates -path 'crates/*/out' ! -path 'crates/*/*/out' -prune -o \
+        -type f \( -name crates.txt -o -name '*.rt' -o -name '*.antt' \) -print0 |
         sort -z | xargs -0 sha256sum | sha256sum
 }
 
@@ -56,8 +57,9 @@ is_built() {
     [ -x "$program" ] && [ "$(cat "$record" 2>/dev/null)" = "$built_from $(sha256sum <"$program")" ]
 }
 
-# Proves and builds the program, or waits while another run builds this one or another. The output of rt is shown only if
-# it fails. The sources' checksum is from before, so that one which changes during the build is seen next time.
+# Proves and builds the program, or waits while another run builds this one or another. rt runs what it has built; here
+# that is on empty input, and as the output of rt it is shown only if something fails.
+# The sources' checksum is from before, so that one which changes during the build is seen next time.
 build() (
     command -v rt >/dev/null ||
         fail "the program is missing or was built from other sources, and Rattle's command 'rt', which builds it, is not on the PATH"
@@ -66,9 +68,9 @@ build() (
     say 'building the program, which takes a minute or two'
     flock 9
     ! is_built || exit 0
-    # rt builds nothing where its stamp says that nothing has changed
-    rm -f "$program" "$record" "$root/target/stamp/$crate"
-    if ! rt_output=$(cd "$root" && rt check "$crate" 2>&1 </dev/null); then
+    # a failed proof leaves no program behind
+    rm -f "$program" "$record"
+    if ! rt_output=$(cd "$root/crates/$crate" && rt run 2>&1 </dev/null); then
         rm -f "$program"
         printf '%s\n' "$rt_output" >&2
         fail 'the program was not built; rt says why above'
@@ -80,7 +82,7 @@ build() (
 # Sets `program` to the program of a crate, which is built first if it is missing or was built from other sources.
 make_ready() { # CRATE
     crate=$1
-    program=$root/target/bin/$crate
+    program=$root/crates/$crate/out/$crate
     record=$root/target/$crate.built
     is_built || build || exit 1
 }
