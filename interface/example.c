@@ -2,9 +2,10 @@
    the cause. The exit status is 0 if a sheet was printed, otherwise 1. From the top of the
    repository:
 
-       rt staticlib share_sheet_c
-       cc -I interface interface/example.c target/staticlib/libshare_sheet_c.a -o target/example
-       target/example < examples/path.net */
+       (cd crates/share_sheet_c && rt lib)
+       out=crates/share_sheet_c/out
+       cc -I interface interface/example.c $out/libshare_sheet_c.a -o $out/example
+       $out/example < examples/path.net */
 
 #include <inttypes.h>
 #include <stdio.h>

@@ -12,10 +12,14 @@ fn main() {
         fail("the package must stand in the folder interface/rust of its repository");
     };
     let (crates, list) = (root.join("crates"), root.join("crates.txt"));
-    let folder = root.join("target/staticlib");
+    let library = crates.join("share_sheet_c");
+    let folder = library.join("out");
     let archive = folder.join("libshare_sheet_c.a");
 
-    for path in [&crates, &list, &archive] {
+    let sources = source_folders(&crates).unwrap_or_else(|why| {
+        fail(&format!("cannot look at the crates in {}: {why}", root.display()));
+    });
+    for path in sources.iter().chain([&list, &archive]) {
         println!("cargo:rerun-if-changed={}", path.display());
     }
     println!("cargo:rustc-link-search=native={}", folder.display());
@@ -26,12 +30,12 @@ fn main() {
         fail("share_sheet_c is built for Linux on x86-64 only");
     }
 
-    let changed = newest_source(&crates, &list).unwrap_or_else(|why| {
+    let changed = newest_source(sources, &list).unwrap_or_else(|why| {
         fail(&format!("cannot look at the sources in {}: {why}", root.display()));
     });
     let built = fs::metadata(&archive).and_then(|found| found.modified());
     if built.map_or(true, |built| built < changed) {
-        build(root, &archive);
+        build(&library, &archive);
         // The archive gets the date of its newest source. A source that changes during the build
         // is newer, and cargo does not take the archive for a file that changed after it looked.
         let dated = File::options().append(true).open(&archive);
@@ -41,10 +45,26 @@ fn main() {
     }
 }
 
-/// When the list of crates or a source among them was last changed.
-fn newest_source(crates: &Path, list: &Path) -> io::Result<SystemTime> {
+/// The folders of all crates but `out`, where rt keeps what it makes.
+fn source_folders(crates: &Path) -> io::Result<Vec<PathBuf>> {
+    let mut folders = vec![];
+    for entry in fs::read_dir(crates)? {
+        let path = entry?.path();
+        if path.is_dir() {
+            for entry in fs::read_dir(path)? {
+                let part = entry?;
+                if part.path().is_dir() && part.file_name() != "out" {
+                    folders.push(part.path());
+                }
+            }
+        }
+    }
+    Ok(folders)
+}
+
+/// When the list of crates or a source in these folders was last changed.
+fn newest_source(mut folders: Vec<PathBuf>, list: &Path) -> io::Result<SystemTime> {
     let mut newest = fs::metadata(list)?.modified()?;
-    let mut folders = vec![crates.to_path_buf()];
     while let Some(folder) = folders.pop() {
         for entry in fs::read_dir(folder)? {
             let path = entry?.path();
@@ -59,9 +79,9 @@ fn newest_source(crates: &Path, list: &Path) -> io::Result<SystemTime> {
 }
 
 /// Proves the library and writes its archive. The output of rt is shown only if it fails.
-fn build(root: &Path, archive: &Path) {
+fn build(library: &Path, archive: &Path) {
     let mut rt = Command::new("rt");
-    rt.args(["staticlib", "share_sheet_c"]).current_dir(root).stdin(Stdio::null());
+    rt.arg("lib").current_dir(library).stdin(Stdio::null());
     let output = rt.output().unwrap_or_else(|why| match why.kind() {
         io::ErrorKind::NotFound => fail(&format!(
             "{} is missing or older than its sources, and Rattle's command 'rt', which builds it, \

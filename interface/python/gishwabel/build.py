@@ -1,9 +1,9 @@
 """Makes the shared object of the proved library, which the calls load.
 
-The shared object is linked by ``cc`` from the archive ``target/staticlib/libshare_sheet_c.a``.
-The archive is proved and built first, by Rattle's command ``rt``, if it is missing or older than a
-source. Both happen by themselves when the first call is made; ``python3 -m gishwabel build`` does
-them ahead of time and prints where the shared object is.
+The shared object is linked by ``cc`` from the archive ``libshare_sheet_c.a`` in
+``crates/share_sheet_c/out``. The archive is proved and built first, by Rattle's command ``rt``, if
+it is missing or older than a source. Both happen by themselves when the first call is made;
+``python3 -m gishwabel build`` does them ahead of time and prints where the shared object is.
 """
 
 from __future__ import annotations
@@ -21,7 +21,8 @@ from pathlib import Path
 ROOT = Path(__file__).resolve().parents[3]
 """The top of the repository that the package stands in."""
 
-_ARCHIVE = ROOT / "target" / "staticlib" / "libshare_sheet_c.a"
+_LIBRARY = ROOT / "crates" / "share_sheet_c"
+_ARCHIVE = _LIBRARY / "out" / "libshare_sheet_c.a"
 _SHARED = ROOT / "target" / "python" / "libshare_sheet_c.so"
 _RECORD = _SHARED.with_suffix(".built")
 
@@ -65,10 +66,15 @@ def _at_top(name: str) -> Path:
 
 
 def _sources() -> list[Path]:
-    """The list of crates, and all files of the library's code, definitions and proofs."""
+    """The list of crates, and all files of the library's code, definitions and proofs.
+
+    What Rattle makes, in the folder ``out`` of a crate, is none of them.
+    """
     found = [_at_top("crates.txt")]
-    for folder, _, files in os.walk(ROOT / "crates"):
-        found += [Path(folder, name) for name in files if name.endswith((".rt", ".antt"))]
+    for part in (ROOT / "crates").glob("*/*"):
+        if part.name != "out":
+            for folder, _, files in os.walk(part):
+                found += [Path(folder, name) for name in files if name.endswith((".rt", ".antt"))]
     return sorted(found)
 
 
@@ -124,7 +130,7 @@ def _prove() -> None:
     print("gishwabel: building the library, which takes a minute or two", file=sys.stderr)
     with contextlib.suppress(FileNotFoundError):
         _ARCHIVE.unlink()  # a failed proof leaves no archive behind
-    _run(["rt", "staticlib", "share_sheet_c"], "Rattle's command 'rt', which proves and builds it,")
+    _run(["rt", "lib"], _LIBRARY, "Rattle's command 'rt', which proves and builds it,")
     if not _ARCHIVE.exists():
         raise BuildError(f"rt built no archive {_ARCHIVE}")
 
@@ -133,15 +139,15 @@ def _link() -> None:
     """Links the shared object from the archive, beside its place and then into it."""
     new = _SHARED.with_suffix(".new")
     whole = ["-Wl,--whole-archive", str(_ARCHIVE), "-Wl,--no-whole-archive", "-Wl,-z,defs"]
-    _run(["cc", "-shared", *whole, "-o", str(new)], "the C compiler 'cc', which links it,")
+    _run(["cc", "-shared", *whole, "-o", str(new)], ROOT, "the C compiler 'cc', which links it,")
     new.replace(_SHARED)
 
 
-def _run(command: list[str], called: str) -> None:
-    """Runs a command at the top of the repository. Its output is shown only if it fails."""
+def _run(command: list[str], folder: Path, called: str) -> None:
+    """Runs a command in a folder. Its output is shown only if it fails."""
     try:
         done = subprocess.run(
-            command, cwd=ROOT, stdin=subprocess.DEVNULL, stdout=subprocess.PIPE,
+            command, cwd=folder, stdin=subprocess.DEVNULL, stdout=subprocess.PIPE,
             stderr=subprocess.STDOUT, check=False,
         )
     except FileNotFoundError as why:
