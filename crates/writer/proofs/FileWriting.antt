@@ -1,6 +1,6 @@
 -- What the loops of the writer write, and its calls one behind another, is the file.
 use Rattle.std.proofs.Common.{Bool, true, false, cond, ◌&&◌, List, [], ◌++◌, append_assoc, ◌≡◌, sym, ap, subst, ◌∙◌, ℕ, ◌+◌, ◌*◌, ◌<◌, zero-le, arith, ltb, length, length-append}
-use mathlib.Core.Bool.{and-true, and-false}
+use Rattle.std.proofs.Math.Bool.{and-true, and-false}
 use Rattle.lists.specs.Lists.{has, WrittenAt}
 use Rattle.lists.specs.Below.{join_below}
 use Rattle.lists.proofs.JoinBelow.{join_below-same}
