@@ -1,3 +1,4 @@
+-- Laws that proofs cite, and claims.
 pub mod OrderedRecords
 pub mod RecordNeighbours
 pub mod RecordPairs

@@ -1,4 +1,4 @@
--- The network file and what its records say: definitions, each with its computed examples and laws.
+-- The network file and what its records say: definitions and computed examples.
 pub mod FileBytes
 pub mod Sections
 pub mod SectionExamples

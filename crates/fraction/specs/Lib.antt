@@ -1,4 +1,4 @@
--- Divisors, multiples and cancelled pairs: definitions, computed examples, then laws.
+-- Divisors, multiples and cancelled pairs: definitions and computed examples.
 pub mod Divisors
 pub mod Cancel
 pub mod Examples

@@ -1,3 +1,4 @@
+-- Laws that proofs cite, and claims.
 pub mod Arrange
 pub mod EveryOrder
 pub mod Fairness

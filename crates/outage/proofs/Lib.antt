@@ -1,3 +1,4 @@
+-- Laws that proofs cite, and claims.
 pub mod Searching
 pub mod Counting
 pub mod EndRows

@@ -1,3 +1,4 @@
+-- Laws that proofs cite, and claims.
 pub mod ChangeFits
 pub mod ChangeWriting
 pub mod PrintedFront

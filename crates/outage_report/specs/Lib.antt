@@ -1,4 +1,4 @@
--- What the outage program prints for its input: definitions, computed examples, then laws and the claim that the input's front suffices.
+-- What the outage program prints for its input: definitions and computed examples.
 pub mod OutageReport
 pub mod Examples
 pub mod ChangeRoom

@@ -1,3 +1,4 @@
+-- Laws that proofs cite, and claims.
 pub mod BeyondStudy
 pub mod ChangeClaims
 pub mod EndTerms

@@ -1,4 +1,4 @@
--- The outage study: definitions, computed examples, then laws and claims.
+-- The outage study: definitions and computed examples.
 pub mod Outage
 pub mod StudyOutcome
 pub mod Examples

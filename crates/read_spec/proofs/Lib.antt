@@ -1,3 +1,4 @@
+-- Laws that proofs cite, and claims.
 pub mod ReadDecides
 pub mod ReadFront
 pub mod ReadRoom

@@ -1,4 +1,4 @@
--- What Read answers and stores: definitions, computed examples, then laws and claims.
+-- What Read answers and stores: definitions and computed examples.
 pub mod ReadOutcome
 pub mod ReadStages
 pub mod ReadExamples

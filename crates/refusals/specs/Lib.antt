@@ -1,4 +1,4 @@
--- Refusals: definitions, computed examples, then laws.
+-- Refusals: definitions and computed examples.
 pub mod Numbers
 pub mod Outcomes
 pub mod WrittenAnswer

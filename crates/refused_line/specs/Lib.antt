@@ -1,3 +1,3 @@
--- The line of a refusal: definitions, computed examples, then how long it is.
+-- The line of a refusal: definitions and computed examples.
 pub mod RefusedLine
 pub mod Examples

@@ -1,2 +1,3 @@
+-- Laws that proofs cite, and claims.
 pub mod PrintedFront
 pub mod Printing

@@ -1,3 +1,3 @@
--- What the sheet program prints for a file: definitions, computed examples, then laws and the claim that a file's front suffices.
+-- What the sheet program prints for a file: definitions and computed examples.
 pub mod Report
 pub mod Examples

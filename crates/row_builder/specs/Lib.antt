@@ -1,3 +1,3 @@
--- Counts, row starts and growing rows: definitions, a computed example, then laws.
+-- Counts, row starts and growing rows: definitions and a computed example.
 pub mod GrowingRows
 pub mod Examples

@@ -1,3 +1,4 @@
+-- Laws that proofs cite, and claims.
 pub mod Summing
 pub mod Scoring
 pub mod BeyondShares

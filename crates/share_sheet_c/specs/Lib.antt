@@ -1,3 +1,3 @@
--- What callers in C are handed: definitions, computed examples, then that a status and the values beside it are the outcome.
+-- What callers in C are handed: definitions and computed examples.
 pub mod Status
 pub mod Examples

@@ -1,3 +1,4 @@
+-- Laws that proofs cite, and claims.
 pub mod Denominator
 pub mod FairFormula
 pub mod NetworkIslands

@@ -1,4 +1,4 @@
--- Shares of the buses of a network, and what Shares and Share answer: definitions, computed examples, then laws and claims.
+-- Shares of the buses of a network, and what Shares and Share answer: definitions and computed examples.
 pub mod Network
 pub mod Formula
 pub mod TableNetwork

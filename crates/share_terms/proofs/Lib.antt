@@ -1,3 +1,4 @@
+-- Laws that proofs cite, and claims.
 pub mod Giving
 pub mod Upper
 pub mod Adding

@@ -1,4 +1,4 @@
--- Units, cases and additions: definitions, computed examples, then the laws of terms and of adding.
+-- Units, cases and additions: definitions and computed examples.
 pub mod Unit
 pub mod TermCases
 pub mod Added

@@ -1,3 +1,4 @@
+-- Laws that proofs cite, and claims.
 pub mod BeyondLine
 pub mod LineDue
 pub mod LineFits

@@ -1,4 +1,4 @@
--- Share sheets: definitions, computed examples, then that every line fits, how a call comes out, and that entries beyond the table never matter.
+-- Share sheets: definitions and computed examples.
 pub mod Sheet
 pub mod LineOutcomes
 pub mod Examples

@@ -1,3 +1,3 @@
--- Signed numbers: definitions, computed examples, then laws.
+-- Signed numbers: definitions and computed examples.
 pub mod Signed
 pub mod Examples

@@ -1,3 +1,4 @@
+-- Laws that proofs cite, and claims.
 pub mod Placing
 pub mod Shifts
 pub mod InsertionLaws

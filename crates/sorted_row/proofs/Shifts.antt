@@ -1,6 +1,6 @@
 -- A row while its numbers from a place on move one slot further.
 use Rattle.std.proofs.Common.{List, [], ◌∷◌, ◌++◌, append_assoc, ◌≡◌, sym, ap, ap₂, ◌∙◌, ℕ, suc, ◌≤◌, ◌<◌, arith, length, set, take, drop, length-append, length-take, length-drop, drop_of_length-le, length-take-le, get_or-set_other, take-take, take-suc, drop-cons}
-use lib.Seq.{split_at, set_at, append_snoc}
+use Rattle.std.proofs.Math.Seq.{split_at, set_at, append_snoc}
 use Rattle.lists.specs.Lists.{at, put}
 use Rattle.lists.proofs.Places.{at_take, at-append}
 use Rattle.lists.proofs.Writes.{put_front}

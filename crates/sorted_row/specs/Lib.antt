@@ -1,4 +1,4 @@
--- A number inserted into a row: definitions, computed examples, then laws.
+-- A number inserted into a row: definitions and computed examples.
 pub mod Insertion
 pub mod Shifting
 pub mod Examples

@@ -1,2 +1,3 @@
+-- Laws that proofs cite, and claims.
 pub mod Mirror
 pub mod ValidEntries

@@ -1,3 +1,4 @@
+-- Laws that proofs cite, and claims.
 pub mod BeyondTable
 pub mod Facts
 pub mod Laid

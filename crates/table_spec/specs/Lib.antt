@@ -1,4 +1,4 @@
--- Line tables: definitions, computed examples, then laws.
+-- Line tables: definitions and computed examples.
 pub mod Limits
 pub mod Layout
 pub mod Lines

@@ -1,4 +1,4 @@
--- Text: definitions, computed examples, then laws.
+-- Text: definitions and computed examples.
 pub mod Text
 pub mod Examples
 pub mod Templates

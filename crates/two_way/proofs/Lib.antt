@@ -1,3 +1,4 @@
+-- Laws that proofs cite, and claims.
 pub mod FirstGame
 pub mod SameTable
 pub mod TwoWaySound

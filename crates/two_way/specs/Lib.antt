@@ -1,3 +1,3 @@
--- Networks of two-way lines: which network a line table holds, computed examples, then laws and claims.
+-- Networks of two-way lines: which network a line table holds, and computed examples.
 pub mod TwoWay
 pub mod Examples

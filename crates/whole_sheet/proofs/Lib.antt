@@ -1,3 +1,4 @@
+-- Laws that proofs cite, and claims.
 pub mod BeyondSheet
 pub mod SheetDue
 pub mod SheetFits

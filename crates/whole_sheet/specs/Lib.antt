@@ -1,4 +1,4 @@
--- Whole sheets: definitions, computed examples, then laws, and that entries beyond the table never matter.
+-- Whole sheets: definitions and computed examples.
 pub mod WholeSheet
 pub mod Examples
 pub mod SheetRoom

@@ -1,3 +1,4 @@
+-- Laws that proofs cite, and claims.
 pub mod GivenBack
 pub mod PairLaws
 pub mod ReadBack

@@ -1,4 +1,4 @@
--- What the file writer answers and writes: definitions, computed examples, then laws and claims.
+-- What the file writer answers and writes: definitions and computed examples.
 pub mod FileOf
 pub mod WriteOutcome
 pub mod RoundTrip

@@ -1,11 +1,6 @@
 -- What the loops of the writer write, and its calls one behind another, is the file.
-use mathlib.Core.Bool.{Bool, true, false, cond, ◌&&◌, and-true, and-false}
-use mathlib.Core.List.{List, [], ◌++◌, append_assoc}
-use mathlib.Core.Path.{◌≡◌, sym, ap, subst, ◌∙◌}
-use Prim.Native.Nat.{ℕ, ◌+◌, ◌*◌, ◌<◌, zero-le}
-use native.Mathlib.Omega.{arith}
-use lib.Dec.{ltb}
-use lib.ListN.{length, length-append}
+use Rattle.std.proofs.Common.{Bool, true, false, cond, ◌&&◌, List, [], ◌++◌, append_assoc, ◌≡◌, sym, ap, subst, ◌∙◌, ℕ, ◌+◌, ◌*◌, ◌<◌, zero-le, arith, ltb, length, length-append}
+use Rattle.std.proofs.Math.Bool.{and-true, and-false}
 use Rattle.lists.specs.Lists.{has, WrittenAt}
 use Rattle.lists.specs.Below.{join_below}
 use Rattle.lists.proofs.JoinBelow.{join_below-same}

@@ -1,5 +1,5 @@
 use Rattle.std.proofs.Common.{ℕ}
-use lib.ListN.{length-replicate}
+use Rattle.std.proofs.Math.ListN.{length-replicate}
 use Rattle.lists.proofs.Places.{at-zeros}
 use Rattle.table_spec.specs.Limits.{max_buses}
 use Rattle.row_builder.proofs.zero_counts.Goals as goal

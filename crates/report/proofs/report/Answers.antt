@@ -1,0 +1,18 @@
+use Rattle.std.proofs.Common.{ℕ, length, sym, ap, ◌∙◌, arith}
+use Rattle.std.proofs.Math.ListN.{replicate, length-replicate}
+use Rattle.lists.specs.Lists.{put}
+use Rattle.table_spec.specs.Limits.{max_entries}
+use Rattle.two_way.specs.TwoWay.{network_of}
+use Rattle.whole_sheet.specs.WholeSheet.{whole_sheet}
+use Rattle.report.proofs.Printing.{print_sheet}
+use Rattle.report.proofs.report.Goals as goal
+
+pub returns-in-Accepted-clause-answer : goal.returns-in-Accepted-clause-answer
+returns-in-Accepted-clause-answer c =
+    let p = ap (λ t. whole_sheet (network_of t)) c.in-Accepted.ensures.stored ∙ print_sheet c.args.file.now (replicate max_entries 0) (length-replicate {A = ℕ} max_entries 0) (sym c.in-Accepted.ensures.answer) in
+    (omega (arith, c.write_sheet.ensures.written_at.0, ap length p), omega (arith, c.write_sheet.ensures.upper_bound, c.write_sheet.auto.out))
+
+pub returns-in-Accepted-clause-text : goal.returns-in-Accepted-clause-text
+returns-in-Accepted-clause-text c =
+    let p = ap (λ t. whole_sheet (network_of t)) c.in-Accepted.ensures.stored ∙ print_sheet c.args.file.now (replicate max_entries 0) (length-replicate {A = ℕ} max_entries 0) (sym c.in-Accepted.ensures.answer) in
+    c.write_sheet.ensures.written_at.1 ∙ ap (put _ 0) p
