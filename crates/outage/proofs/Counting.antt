@@ -1,12 +1,6 @@
 -- How the ends of a line are found: lines are counted at their lower ends, bus by bus.
-use mathlib.Core.Bool.{true, cond, ◌&&◌}
-use mathlib.Core.List.{List, [], ◌∷◌}
-use mathlib.Core.Path.{◌≡◌, sym, ap, ◌∙◌, fun_ext}
-use Prim.Native.Nat.{ℕ, ◌+◌, ◌-◌, ◌≤◌, ◌<◌}
-use native.Mathlib.Omega.{arith}
-use borrow.Author.Tests.{ltb-true, ltb-false, lt-ltb}
-use lib.Dec.{ltb}
-use lib.ListN.{length, drop, length-append, length-drop}
+use Rattle.std.proofs.Common.{true, cond, ◌&&◌, List, [], ◌∷◌, ◌≡◌, sym, ap, ◌∙◌, ℕ, ◌+◌, ◌-◌, ◌≤◌, ◌<◌, arith, ltb-true, ltb-false, lt-ltb, ltb, length, drop, length-append, length-drop}
+use Rattle.std.proofs.Math.Path.{fun_ext}
 use Rattle.lists.specs.Lists.{has, at, Ascending}
 use Rattle.lists.specs.Below.{join_below, map_below}
 use Rattle.lists.proofs.Tests.{split, same_test, and_both, and_left, and_right}

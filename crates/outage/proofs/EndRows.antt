@@ -1,9 +1,5 @@
 -- What is asked of the row of an end, with the other end in it and without.
-use mathlib.Core.List.{List, [], ◌∷◌}
-use mathlib.Core.Path.{◌≡◌, ap, ◌∙◌}
-use Prim.Native.Nat.{ℕ, ◌+◌, ◌^◌, ◌≤◌, ◌<◌}
-use native.Mathlib.Omega.{arith}
-use lib.ListN.{length}
+use Rattle.std.proofs.Common.{List, [], ◌∷◌, ◌≡◌, ap, ◌∙◌, ℕ, ◌+◌, ◌^◌, ◌≤◌, ◌<◌, arith, length}
 use Rattle.lists.specs.Lists.{◌∈◌, without, at}
 use Rattle.lists.proofs.Without.{of_without, length-without-le}
 use Rattle.table_spec.specs.Limits.{max_degree, max_weight}

@@ -109,10 +109,10 @@ fn add_end(
 )
     requires holds { Holds table.now × (end < bus_count table.now) × Over table.now over }
     requires divided { Divided (length (without (other ∷ []) (row table.now end))) over }
-    requires room { Room (max_weight * over) before.old × (bus_count table.now ≤ length before.old) }
-    requires room_2 { Room (max_weight * over) after.old × (bus_count table.now ≤ length after.old) }
-    ensures added { Added (terms_from (weight table.now end) (need table.now end) (row table.now end) over end) before.old before.new }
-    ensures added_2 { Added (terms_from (weight table.now end) (need table.now end) (without (other ∷ []) (row table.now end)) over end) after.old after.new }
+    requires room_before { Room (max_weight * over) before.old × (bus_count table.now ≤ length before.old) }
+    requires room_after { Room (max_weight * over) after.old × (bus_count table.now ≤ length after.old) }
+    ensures added_before { Added (terms_from (weight table.now end) (need table.now end) (row table.now end) over end) before.old before.new }
+    ensures added_after { Added (terms_from (weight table.now end) (need table.now end) (without (other ∷ []) (row table.now end)) over end) after.old after.new }
 {
     let row = neighbours(table, end);
     let weight = weight(table, end);
@@ -133,8 +133,8 @@ fn add_end(
 
 // Stores the sum of each of n buses after the loss less its sum before it.
 fn store(before: &[u64], after: &[u64], n: usize, changes: &mut [i64])
-    requires n_in_bounds { (n ≤ length before.now) × (n ≤ length after.now) × (n ≤ length changes.old) }
-    requires by_index { (v : ℕ) → (at before.now v < 2 ^ 63) × (at after.now v < 2 ^ 63) }
+    requires inside { (n ≤ length before.now) × (n ≤ length after.now) × (n ≤ length changes.old) }
+    requires small { (v : ℕ) → (at before.now v < 2 ^ 63) × (at after.now v < 2 ^ 63) }
     ensures { changes.new ≡ signed_below n (λ v. difference (at after.now v) (at before.now v)) ++ drop n changes.old }
 {
     let mut bus = 0;
@@ -149,7 +149,7 @@ fn store(before: &[u64], after: &[u64], n: usize, changes: &mut [i64])
 // the line's ends move. For callers who study many lines of a network: neither the table nor its L is looked at again.
 pub fn study_over(table: &[u16], line: usize, over: u64, changes: &mut [i64])
     requires holds { Holds table.now × (line < lines table.now) × (bus_count table.now ≤ length changes.old) }
-    requires over { Over table.now over × Over (without_line table.now line) over }
+    requires whole { Over table.now over × Over (without_line table.now line) over }
     ensures { changes.new ≡ signed_below (bus_count table.now) (change_over (network_of table.now) (network_of (without_line table.now line)) over) ++ drop (bus_count table.now) changes.old }
 {
     let ends = ends_of(table, line);
@@ -165,8 +165,8 @@ pub fn study_over(table: &[u16], line: usize, over: u64, changes: &mut [i64])
 // The study of a table that was tested.
 pub fn study(table: &[u16], line: usize, changes: &mut [i64]) -> AllChanges
     requires { Holds table.now }
-    ensures result_value { outcome_of_study result ≡ study_outcome table.now line (length changes.old) }
-    ensures changes_after { changes.new ≡ changes_after table.now line changes.old }
+    ensures answer { outcome_of_study result ≡ study_outcome table.now line (length changes.old) }
+    ensures stored { changes.new ≡ changes_after table.now line changes.old }
 {
     if lines(table) <= line {
         return AllChanges::Refused(Refusal::NoSuchLine);

@@ -60,9 +60,9 @@ module _ {t : List ℕ} (w : Holds t) {a b : ℕ} (line : Line t a b) (L : ℕ) 
       ∙ difference-none _ _ (omega (
         arith,
         nothing (weight t a) (need t a) (row t a) L a v f.not_lower (has-none v (row t a) f.not_by_lower),
-        nothing (weight t b) (need t b) (row t b) L b v f.not-upper (has-none v (row t b) f.not_by_upper),
+        nothing (weight t b) (need t b) (row t b) L b v f.not_upper (has-none v (row t b) f.not_by_upper),
         nothing (weight t a) (need t a) (without (b ∷ []) (row t a)) L a v f.not_lower (still a b f.not_by_lower),
-        nothing (weight t b) (need t b) (without (a ∷ []) (row t b)) L b v f.not-upper (still b a f.not_by_upper),
+        nothing (weight t b) (need t b) (without (a ∷ []) (row t b)) L b v f.not_upper (still b a f.not_by_upper),
       ))
 
   -- A CHANGE FITS: each end moves no more than its weight times L

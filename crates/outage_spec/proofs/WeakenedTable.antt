@@ -1,8 +1,7 @@
 -- The network without a line can be scored: its rows, its degrees, and that the L of the full network makes its terms whole.
 use Rattle.std.specs.Prelude.{Bool, true, false, cond, not, ◌&&◌, ◌||◌, ◌≡◌, refl, ℕ, ◌≤◌, ◌<◌, eqb, length}
 use Rattle.std.proofs.Math.Bool.{and-false, and-true}
-use mathlib.Core.List.{List, [], ◌∷◌, append-nil}
-use Rattle.std.proofs.Common.{sym, ap, ◌∙◌, arith, eqb-true, ne_eqb}
+use Rattle.std.proofs.Common.{List, [], ◌∷◌, append-nil, sym, ap, ◌∙◌, arith, eqb-true, ne_eqb}
 use Rattle.std.proofs.Math.Path.{ap₂}
 use Rattle.lists.specs.Lists.{has, without, at}
 use Rattle.lists.specs.Below.{sum_below}

@@ -16,9 +16,9 @@ use Rattle.outage_spec.specs.Outage.{without_pair, without_line, change_over}
 use Rattle.outage_spec.specs.StudyOutcome.{study_outcome, stored_changes, changes_after}
 
 -- without line 3, from bus 1 to bus 3, bus 1 of the square has need 3 and degree 2
-taken_out_lem : without_line square 3 ≡ 4 ∷ 1 ∷ 3 ∷ 1 ∷ 2 ∷ 1 ∷ 1 ∷ 1 ∷ 1 ∷ 0 ∷ 2 ∷ 4 ∷ 6 ∷ 8 ∷ 1 ∷ 3 ∷ 0 ∷ 2 ∷ 1 ∷ 3 ∷ 0 ∷ 2 ∷ []
+taken_out : without_line square 3 ≡ 4 ∷ 1 ∷ 3 ∷ 1 ∷ 2 ∷ 1 ∷ 1 ∷ 1 ∷ 1 ∷ 0 ∷ 2 ∷ 4 ∷ 6 ∷ 8 ∷ 1 ∷ 3 ∷ 0 ∷ 2 ∷ 1 ∷ 3 ∷ 0 ∷ 2 ∷ []
 unfolding square without_pair table_of laid pairs list_below row row_at needs weights starts neighbour_numbers at join_below map_below
-taken_out_lem = refl
+taken_out = refl
 
 -- a table, a line, entries lent, the answer, and the entries after it
 record Case : Type 0 where

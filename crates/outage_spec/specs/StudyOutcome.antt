@@ -45,7 +45,7 @@ pub record Line (t : List ℕ) (a b : ℕ) : Type 0 where
 -- a bus is neither an end of a line nor a neighbour of an end
 pub record Far (t : List ℕ) (a b v : ℕ) : Type 0 where
   pub not_lower : v ≡ a → ⊥
-  pub not-upper : v ≡ b → ⊥
+  pub not_upper : v ≡ b → ⊥
   pub not_by_lower : has v (row t a) ≡ false
   pub not_by_upper : has v (row t b) ≡ false
 

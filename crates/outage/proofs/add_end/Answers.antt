@@ -1,0 +1,65 @@
+use Rattle.std.proofs.Common.{arith, ℕ, List, [], ◌∷◌, ◌*◌, ◌≤◌, sym, length, length-take-le}
+use Rattle.lists.specs.Lists.{without, WrittenAt}
+use Rattle.lists.proofs.Without.{length-without-le}
+use Rattle.lists.proofs.Writes.{written_front}
+use Rattle.table_spec.specs.Limits.{max_degree, max_weight}
+use Rattle.share_terms.proofs.RowTerms.{added_by, row_short, terms_asked}
+use Rattle.outage.proofs.EndRows.{end_room, left_is, left_room, left_asked}
+use Rattle.outage.proofs.add_end.Goals as goal
+
+-- as many as are left of a row are no more than it may have
+many_le : (r left : List ℕ) {new : List ℕ} (other : ℕ) {many : ℕ} → length r ≤ max_degree → WrittenAt (without (other ∷ []) r) 0 left many new → many ≤ max_degree
+many_le r left other s h = omega (arith, h.0, length-without-le (other ∷ []) r, s)
+
+pub unit-requires : goal.unit-requires
+unit-requires c = row_short c.requires.holds.0.shape c.requires.holds.1 c.neighbours-row.ensures
+
+pub add_terms-requires-clause-weight_le_max_weight : goal.add_terms-requires-clause-weight_le_max_weight
+add_terms-requires-clause-weight_le_max_weight c =
+    let h = c.requires.holds in
+    terms_asked h.0.shape h.1 c.neighbours-row.ensures c.weight-weight.ensures.1 c.need-need.ensures h.2 c.unit.ensures
+
+pub add_terms-requires-clause-by_index : goal.add_terms-requires-clause-by_index
+add_terms-requires-clause-by_index c =
+    let h = c.requires.holds in
+    let room = c.requires.room_before in
+    (end_room h.0 h.1 c.neighbours-row.ensures (max_weight * c.args.over) c.args.before.now room.0 room.1).1
+
+pub leave_out-many-requires : goal.leave_out-many-requires
+leave_out-many-requires c = row_short c.requires.holds.0.shape c.requires.holds.1 c.neighbours-row.ensures
+
+pub slice_bounds-left-end : goal.slice_bounds-left-end
+slice_bounds-left-end c =
+    let short = row_short c.requires.holds.0.shape c.requires.holds.1 c.neighbours-row.ensures in
+    omega (arith, many_le _ _ _ short c.leave_out-many.ensures, c.leave_out-many.auto.left)
+
+pub slice_bounds-add_terms-end : goal.slice_bounds-add_terms-end
+slice_bounds-add_terms-end c =
+    let short = row_short c.requires.holds.0.shape c.requires.holds.1 c.neighbours-row.ensures in
+    sym (length-take-le _ _ (omega (arith, many_le _ _ _ short c.leave_out-many.ensures, c.leave_out-many.auto.left)))
+
+pub unit-requires-2 : goal.unit-requires-2
+unit-requires-2 c =
+    let short = row_short c.requires.holds.0.shape c.requires.holds.1 c.neighbours-row.ensures in
+    omega (arith, many_le _ _ _ short c.leave_out-many.ensures, short)
+
+pub add_terms-requires-2-clause-weight_le_max_weight : goal.add_terms-requires-2-clause-weight_le_max_weight
+add_terms-requires-2-clause-weight_le_max_weight c =
+    let h = c.requires.holds in
+    let m = c.leave_out-many.ensures in
+    let short = row_short h.0.shape h.1 c.neighbours-row.ensures in
+    left_asked h.0 h.1 c.neighbours-row.ensures c.args.other (written_front _ _ m) c.weight-weight.ensures.1 c.need-need.ensures c.requires.divided
+    (sym (length-take-le c.leave_out-many.result c.leave_out-many.new.left (omega (arith, many_le _ _ _ short m, c.leave_out-many.auto.left)))) c.unit-2.ensures
+
+pub add_terms-requires-2-clause-by_index : goal.add_terms-requires-2-clause-by_index
+add_terms-requires-2-clause-by_index c =
+    let h = c.requires.holds in
+    let room = c.requires.room_after in
+    let left = written_front _ _ c.leave_out-many.ensures in
+    (left_room h.0 h.1 c.neighbours-row.ensures c.args.other left (max_weight * c.args.over) c.args.after.now room.0 room.1).1
+
+pub returns-clause-added_after : goal.returns-clause-added_after
+returns-clause-added_after c =
+    let h = c.requires.holds in
+    let left = left_is h.0 h.1 c.neighbours-row.ensures c.args.other (written_front _ _ c.leave_out-many.ensures) in
+    added_by c.args.over c.args.end c.weight-weight.ensures.0 c.need-need.ensures left c.add_terms-2.ensures
