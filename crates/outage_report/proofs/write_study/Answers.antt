@@ -1,0 +1,23 @@
+use Rattle.std.proofs.Common.{◌≡◌, sym, ◌∙◌, ℤ, List, pos, length, replicate}
+use Rattle.std.proofs.lemmas.List.{length-replicate}
+use Rattle.table_spec.specs.Limits.{max_buses}
+use Rattle.outage_report.proofs.StoredChanges.{front_small, front-lines}
+use Rattle.outage_report.proofs.Printing.{print_changes}
+use Rattle.outage_report.proofs.write_study.Goals as goal
+
+-- the entries that the study is lent
+abbrev lent : List ℤ
+lent = replicate max_buses (pos 0)
+
+room : length lent ≡ max_buses
+room = length-replicate {A = ℤ} max_buses (pos 0)
+
+pub write_changes-requires : goal.write_changes-requires
+write_changes-requires c =
+    (front_small c.args.table.now c.args.line lent c.bus_count-n.ensures.0 (sym c.in-Over.ensures.answer) c.in-Over.ensures.stored, c.requires.1)
+
+pub returns-in-Over-clause-written_at : goal.returns-in-Over-clause-written_at
+returns-in-Over-clause-written_at c =
+    let accepted = sym c.in-Over.ensures.answer in
+    let text = front-lines c.args.table.now c.args.line lent c.bus_count-n.ensures.0 accepted c.in-Over.ensures.stored ∙ print_changes c.args.table.now c.args.line room accepted in
+    rw text at c.write_changes.ensures.written_at
