@@ -16,21 +16,21 @@ pub use network::{Counts, Refusal};
 use network::{Network, within};
 
 // A count of a file, or why the file is refused.
-#[derive(Drop)]
+#[derive(Clone, Copy)]
 pub enum Counted {
     Is(usize),
     Refused(Refusal),
 }
 
 // The counts of a file's network, or why the file is refused.
-#[derive(Drop)]
+#[derive(Clone, Copy)]
 pub enum Reading {
     Accepted(Counts),
     Refused(Refusal),
 }
 
 // The two bus numbers of a record.
-#[derive(Drop)]
+#[derive(Clone, Copy)]
 pub struct Ends {
     pub first: usize,
     pub second: usize,

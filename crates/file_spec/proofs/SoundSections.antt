@@ -1,4 +1,4 @@
--- What a file with sound sections satisfies, and that each test of record ends passes exactly where its facts hold: `…-facts` and `…-test`.
+-- What a file with sound sections satisfies, and that each test of record ends passes exactly where its facts hold: `…_facts` and `…_test`.
 -- ---- the sections
 use Rattle.std.specs.Prelude.{true, not, ◌&&◌, List, ◌++◌, ◌⊎◌, ◌≡◌, ℕ, ◌*◌, ◌≤◌, ◌<◌, eqb}
 use Rattle.std.proofs.Math.Bool.{false}

@@ -1,4 +1,4 @@
--- Laws of the pairs that records join.
+-- The ends of a record that joins two buses.
 use Rattle.std.specs.Prelude.{List, ◌⊎◌, ◌≡◌}
 use Prim.Native.Nat.{ℕ}
 use Rattle.file_spec.specs.FileBytes.{first_end, second_end}

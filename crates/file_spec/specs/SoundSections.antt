@@ -1,5 +1,4 @@
--- What a file with sound sections satisfies, and that each test of record ends passes exactly where its facts hold: `…-facts` and `…-test`.
--- ---- the sections
+-- What a file with sound sections satisfies, and what sound ends of records do.
 use Rattle.std.specs.Prelude.{true, List, ◌≡◌, ℕ, ◌*◌, ◌≤◌, ◌<◌}
 use Rattle.std.proofs.Math.ListN.{length}
 use Rattle.table_spec.specs.Limits.{max_buses, max_lines}

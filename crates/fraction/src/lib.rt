@@ -9,14 +9,14 @@ ghost use Rattle.fraction.specs.Odd.{OddPart};
 use refusals::Refusal;
 
 // Numerator and denominator in lowest terms, or why there is no such pair.
-#[derive(Drop)]
+#[derive(Clone, Copy)]
 pub enum Cancelled {
     Pair(u64, u64),
     Refused(Refusal),
 }
 
 // A fraction in lowest terms.
-#[derive(Drop)]
+#[derive(Clone, Copy)]
 pub struct Lowest {
     pub top: u64,
     pub bottom: u64,

@@ -5,8 +5,8 @@
 -- orders of all players, so that their own orders are enough (`joining`, for a part of the players of any size).
 -- Rank: in the orders of some players, each of them stands at each place equally often (`rank`).
 -- Counting places: if u needs k watchers, u is its own pivot in min(k, d + 1) of d + 1 orders (`own-pivots`), each watcher is the pivot in
--- d + 1 - k of d (d + 1), and in none if k is above d (`watcher-pivots`), and any other bus in none (`far-pivots`).
--- Terms: times L and the weight of u, these are its own term, its neighbour term and 0 (`earned-right`); summed over u, the numerator (`numerator-earned`).
+-- d + 1 - k of d (d + 1), and in none if k is above d (`watcher_pivots`), and any other bus in none (`far_pivots`).
+-- Terms: times L and the weight of u, these are its own term, its neighbour term and 0 (`earned_right`); summed over u, the numerator (`numerator-earned`).
 -- ---- a gain, bus by bus
 use Rattle.std.specs.Prelude.{Bool, true, false, cond, not, ◌&&◌, List, ◌∷◌, ◌≡◌, ℕ, ◌+◌, ◌-◌, ◌*◌, ◌/◌, ◌<◌, min, eqb, leb, length}
 use Rattle.std.proofs.Common.{sym, ap, ◌∙◌, mul_comm, mul-pos, sub-eq-zero_of_le, arith, eqb-true, leb-true, leb-false}

@@ -1,4 +1,4 @@
--- Laws of a list written into a slice.
+-- A list copied into a slice, entry by entry.
 use mathlib.Core.List.{List}
 use Rattle.std.specs.Prelude.{◌≡◌, ℕ, ◌≤◌}
 use Rattle.std.proofs.Math.ListN.{length, take}

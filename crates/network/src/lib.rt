@@ -31,14 +31,14 @@ pub fn can_be_met(need: usize, degree: usize) -> bool
 }
 
 // The counts of a network: n and m.
-#[derive(Drop)]
+#[derive(Clone, Copy)]
 pub struct Counts {
     pub buses: usize,
     pub lines: usize,
 }
 
 // The limits by name, for callers that cannot cite the constants of `Network`.
-#[derive(Drop)]
+#[derive(Clone, Copy)]
 pub struct Limits {
     pub buses: usize,
     pub degree: usize,
@@ -49,7 +49,7 @@ pub struct Limits {
     pub bytes: usize,
 }
 
-#[derive(Drop)]
+#[derive(Clone, Copy)]
 pub struct Network;
 
 impl Network {

@@ -28,14 +28,14 @@ use signed::less;
 use table_check::holds;
 
 // The number that all changes are over, or why there are none.
-#[derive(Drop)]
+#[derive(Clone, Copy)]
 pub enum AllChanges {
     Over(u64),
     Refused(Refusal),
 }
 
 // The two ends of a line.
-#[derive(Drop)]
+#[derive(Clone, Copy)]
 struct Ends {
     lower: usize,
     upper: usize,

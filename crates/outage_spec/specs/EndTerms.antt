@@ -1,4 +1,4 @@
--- Of all terms only those of the line's ends move: a bus's change is what the two ends give it without the line less what they give it with the line.
+-- What a line's ends give to a bus.
 use Rattle.std.specs.Prelude.{List, [], ◌∷◌, ℕ, ◌+◌}
 use Rattle.lists.specs.Lists.{without}
 use Rattle.table_spec.specs.Layout.{row, need, weight}

@@ -1,4 +1,4 @@
--- What is due of the outage study, and that it is all that is promised.
+-- What is due of the outage study.
 use Rattle.std.specs.Prelude.{List, ℕ, ℤ, length}
 use Rattle.refusals.specs.Outcomes.{Outcome}
 use Rattle.refusals.specs.Due.{Due}

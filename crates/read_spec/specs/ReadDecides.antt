@@ -1,4 +1,4 @@
--- How the causes of Read decide: the sections, or else the records; and what an accepted file has passed.
+-- What is due of Read.
 use Rattle.std.specs.Prelude.{List, ℕ, length}
 use Rattle.refusals.specs.Outcomes.{Outcome}
 use Rattle.refusals.specs.Due.{Due}

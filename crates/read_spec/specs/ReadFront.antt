@@ -1,4 +1,4 @@
--- One byte more than the largest file has suffices to judge a file: a longer one is refused, whatever stands behind.
+-- Why a file that is longer than the largest is refused.
 use Rattle.std.specs.Prelude.{cond, List, ℕ, eqb}
 use Rattle.table_spec.specs.Limits.{max_buses, max_lines}
 use Rattle.table_spec.specs.Holds.{within, needs_in_range, weights_in_range}

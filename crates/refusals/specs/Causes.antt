@@ -1,4 +1,4 @@
--- Laws of the first cause.
+-- What a list of causes says of a call.
 use Rattle.std.specs.Prelude.{Bool, false, cond, ◌||◌, List, [], ◌∷◌, ◌≡◌, ℕ, eqb}
 use Rattle.refusals.specs.Numbers.{number_of}
 use Rattle.refusals.specs.Outcomes.{Outcome, gives, refuses, Cause}

@@ -28,21 +28,21 @@ use share_terms::{add_terms, clear, term, unit};
 use table_check::holds;
 
 // The number that all numerators are over, or why there are none.
-#[derive(Drop)]
+#[derive(Clone, Copy)]
 pub enum AllShares {
     Over(u64),
     Refused(Refusal),
 }
 
 // A numerator and the number that it is over, or why there is none.
-#[derive(Drop)]
+#[derive(Clone, Copy)]
 pub enum OneShare {
     Is(u64, u64),
     Refused(Refusal),
 }
 
 // A numerator, and the number that it is over.
-#[derive(Drop)]
+#[derive(Clone, Copy)]
 pub struct BusShare {
     pub numerator: u64,
     pub over: u64,

@@ -1,4 +1,4 @@
--- What is due of Shares and Share. Of a network it is fair, if its kind shows that shares are defined; and Share gives the entry that Shares stores.
+-- What is due of Shares and of Share.
 use Rattle.std.specs.Prelude.{List, ℕ, length}
 use Rattle.refusals.specs.Outcomes.{Outcome}
 use Rattle.refusals.specs.Due.{Due, Answered}

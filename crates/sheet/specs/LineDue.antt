@@ -1,4 +1,4 @@
--- How a text and Sheet line come out.
+-- What is due for a text.
 use Rattle.std.specs.Prelude.{List, ℕ, length}
 use Rattle.refusals.specs.Outcomes.{Outcome}
 use Rattle.refusals.specs.Due.{Due}

@@ -7,7 +7,7 @@ ghost use Rattle.sorted_row.specs.Insertion.{is_added, RowAfter};
 ghost use Rattle.sorted_row.specs.Shifting.{Place, insert_at};
 
 // What inserting a number into a row did.
-#[derive(Drop)]
+#[derive(Clone, Copy)]
 pub enum Inserted {
     // The number stands in the row now.
     Added,

@@ -10,19 +10,7 @@ pub record Passed (n i : ℕ) (r : List ℕ) (k least : ℕ) : Type 0 where
   pub under : (q : ℕ) → q < k → at r q < least
   pub reached : (least ≡ 0) ⊎ ((p : ℕ) × (p < k) × (least ≡ at r p + 1))
 
-pub none_passed : (n i : ℕ) (r : List ℕ) → Passed n i r 0 0
-none_passed n i r =
-    record { each = λ q l. absurd (not-suc-le-zero l); under = λ q l. absurd (not-suc-le-zero l); reached = inl refl }
-
 module _ {n i : ℕ} {r : List ℕ} {k least j : ℕ} (w : Passed n i r k least) (e : j ≡ at r k) where
-  pub one_more : j < n → (j ≡ i → ⊥) → least ≤ j → Passed n i r (k + 1) (j + 1)
-  one_more b d g =
-      record {
-        each = below_more _ k w.each (omega arith, λ q. d (e ∙ q), λ p l. omega (arith, w.under p l));
-        under = below_more _ k (λ q l. omega (arith, w.under q l)) (omega arith);
-        reached = inr (k, omega arith, ap (λ m. m + 1) e);
-      }
-
   pub too_late : k < length r → j < least → ValidRow n i r → ⊥
   too_late b g t = ⊎_elim (λ z. omega arith) (λ z. omega (arith, z.2, t.ascends z.0 k z.1 b)) w.reached
 

@@ -10,14 +10,14 @@ use network::table::{bus_count, neighbours, row_start};
 use table_check::holds;
 
 // How many neighbours a bus has, or why that is refused.
-#[derive(Drop)]
+#[derive(Clone, Copy)]
 pub enum BusDegree {
     Is(usize),
     Refused(Refusal),
 }
 
 // Where a bus's row begins in the lent table, and how many entries it has, or why that is refused.
-#[derive(Drop)]
+#[derive(Clone, Copy)]
 pub enum RowPlace {
     At(usize, usize),
     Refused(Refusal),

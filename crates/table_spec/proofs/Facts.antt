@@ -1,4 +1,4 @@
--- Each test of a table passes exactly where its facts hold: `…-facts` and `…-test`. `holds-facts` and `holds_test` are the two together.
+-- Each test of a table passes exactly where its facts hold: `…_facts` and `…_test`. `holds_facts` and `holds_test` are the two together.
 use Rattle.std.specs.Prelude.{Bool, false, ◌&&◌, List, ◌≡◌, ℕ, ◌+◌, ◌≤◌, ◌<◌, eqb, length}
 use Rattle.std.proofs.Math.Bool.{true, not, and-true}
 use Rattle.std.proofs.Math.Path.{sym, ap}

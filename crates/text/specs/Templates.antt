@@ -1,4 +1,4 @@
--- Laws of templates.
+-- An iteration of a loop over a template.
 use Rattle.std.specs.Prelude.{List, ◌++◌, ◌≡◌, ℕ, ◌+◌, ◌≤◌, length, take}
 use Rattle.lists.specs.Lists.{count}
 use Rattle.text.specs.Text.{sign, filled}

@@ -1,0 +1,2 @@
+-- Laws that proofs cite, and claims.
+pub mod Products
