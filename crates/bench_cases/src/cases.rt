@@ -1,23 +1,12 @@
 // The scope's bench cases that are not starred, as orders amend them, and cases of weights: a line for each call, printed from
 // what it answers and leaves.
-ghost use Prim.Native.Nat.{_+_, _*_, _≤_, _<_};
-ghost use lib.ListN.{length};
-use super::files::path_to;
-use super::files::weighted_path_to;
-use super::files::write_star;
-use super::text::say;
-use super::text::say_changed;
-use super::text::say_entries;
-use super::text::say_number;
-use super::text::say_refused;
-use fraction::Cancelled;
-use fraction::cancel;
-use reader::Reading;
-use reader::read;
-use scorer::AllShares;
-use scorer::OneShare;
-use scorer::share;
-use scorer::shares;
+ghost use Rattle.std.specs.Prelude.{◌+◌, ◌*◌, ◌≤◌, ◌<◌, length};
+
+use super::files::{path_to, weighted_path_to, write_star};
+use super::text::{say, say_changed, say_entries, say_number, say_refused};
+use fraction::{Cancelled, cancel};
+use reader::{Reading, read};
+use scorer::{AllShares, OneShare, share, shares};
 
 // What lent entries hold before a call, and none of these calls stores.
 const MARK: u16 = 54321;
@@ -33,7 +22,7 @@ const BYTES: usize = 1024;
 
 // Up to where a call changed entries: those beyond hold the mark.
 fn changed(entries: &[u16]) -> usize
-    ensures { λ r. ⌜ r ≤ length (now (entries .entry)) ⌝ }
+    ensures { result ≤ length entries.now }
 {
     let mut end = 0;
     let mut i = 0;
@@ -106,7 +95,7 @@ fn say_cancelled(numerator: u64, denominator: u64) {
 
 // Read into marked entries, its answer, and up to where they changed, which is given too.
 fn say_read(file: &[u8], table: &mut [u16]) -> usize
-    ensures { λ r. ⌜ r ≤ length (now (table .exit)) ⌝ }
+    ensures { result ≤ length table.new }
 {
     match read(file, table) {
         Reading::Refused(cause) => say_refused(cause),
@@ -166,7 +155,7 @@ fn file_case(label: &[u8], file: &[u8]) {
 
 // Bus 0 with lines to the first buses after it, all needs 1.
 fn star_case(label: &[u8], buses: usize, lines: usize)
-    requires { ⌜ 4 + buses + 4 * lines ≤ 1024 ⌝ }
+    requires { 4 + buses + 4 * lines ≤ 1024 }
 {
     let mut file = [0u8; BYTES];
     let bytes = write_star(&mut file, buses, lines);
@@ -201,7 +190,7 @@ fn star_of_24() {
 
 // Path, with another end of its second record or a byte more, into some entries.
 fn path_case(label: &[u8], end: u8, bytes: usize, lent: usize)
-    requires { ⌜ (bytes ≤ 16) × (lent ≤ 2048) ⌝ }
+    requires { (bytes ≤ 16) × (lent ≤ 2048) }
 {
     let file = path_to(end);
     let mut table = [MARK; ENTRIES];
@@ -213,7 +202,7 @@ fn path_case(label: &[u8], end: u8, bytes: usize, lent: usize)
 // Path with weights, its second record to `end`: up to some byte of the weight count, the weights, of which bus 1 has the one
 // given, or a byte more.
 fn weights_case(label: &[u8], end: u8, count: usize, weight: usize, bytes: usize)
-    requires { ⌜ (count < 65536) × (weight < 65536) × (bytes ≤ 24) ⌝ }
+    requires { (count < 65536) × (weight < 65536) × (bytes ≤ 24) }
 {
     let file = weighted_path_to(end, count, weight);
     let mut table = [MARK; ENTRIES];

@@ -1,18 +1,16 @@
 // Network files for the cases.
-ghost use mathlib.Core.Path.{_≡_};
-ghost use Prim.Native.Nat.{_+_, _*_, _≤_, _<_};
-ghost use lib.ListN.{length};
+ghost use Rattle.std.specs.Prelude.{◌≡◌, ◌+◌, ◌*◌, ◌≤◌, ◌<◌, length};
 
 // The scope's Path, whose second record joins bus 1 to `end`, and a byte more.
 pub fn path_to(end: u8) -> [u8; 16]
-    ensures { λ r. ⌜ length r ≡ 16 ⌝ }
+    ensures { length result ≡ 16 }
 {
     [3, 0, 1, 1, 1, 2, 0, 0, 0, 1, 0, 1, 0, end, 0, 0]
 }
 
 // A number of two bytes, low byte first.
 fn write_word(file: &mut [u8], at: usize, number: usize)
-    requires { ⌜ (at + 1 < length (now file)) × (number < 65536) ⌝ }
+    requires { (at + 1 < length file.old) × (number < 65536) }
 {
     file[at] = (number % 256) as u8;
     file[at + 1] = (number / 256) as u8;
@@ -20,8 +18,8 @@ fn write_word(file: &mut [u8], at: usize, number: usize)
 
 // The same Path with a weight count, the weights 1, `weight` and 2, and a byte more.
 pub fn weighted_path_to(end: u8, count: usize, weight: usize) -> [u8; 24]
-    requires { ⌜ (count < 65536) × (weight < 65536) ⌝ }
-    ensures { λ r. ⌜ length r ≡ 24 ⌝ }
+    requires { (count < 65536) × (weight < 65536) }
+    ensures { length result ≡ 24 }
 {
     let path = path_to(end);
     let mut file = [0u8; 24];
@@ -37,7 +35,7 @@ pub fn weighted_path_to(end: u8, count: usize, weight: usize) -> [u8; 24]
 
 // The bus count, and needs of 1.
 fn write_buses(file: &mut [u8], buses: usize)
-    requires { ⌜ (2 + buses ≤ length (now file)) × (buses < 65536) ⌝ }
+    requires { (2 + buses ≤ length file.old) × (buses < 65536) }
 {
     write_word(file, 0, buses);
     let mut bus = 0;
@@ -49,7 +47,7 @@ fn write_buses(file: &mut [u8], buses: usize)
 
 // The line count, and records of lines from bus 0 to the buses after it.
 fn write_records(file: &mut [u8], lines: usize)
-    requires { ⌜ (2 + 4 * lines ≤ length (now file)) × (lines < 65536) ⌝ }
+    requires { (2 + 4 * lines ≤ length file.old) × (lines < 65536) }
 {
     write_word(file, 0, lines);
     let mut line = 0;
@@ -62,8 +60,8 @@ fn write_records(file: &mut [u8], lines: usize)
 
 // The file of a star, some of whose buses may stand alone. Gives its byte count.
 pub fn write_star(file: &mut [u8], buses: usize, lines: usize) -> usize
-    requires { ⌜ (4 + buses + 4 * lines ≤ length (now file)) × (buses < 65536) × (lines < 65536) ⌝ }
-    ensures { λ r. ⌜ r ≡ 4 + buses + 4 * lines ⌝ }
+    requires { (4 + buses + 4 * lines ≤ length file.old) × (buses < 65536) × (lines < 65536) }
+    ensures { result ≡ 4 + buses + 4 * lines }
 {
     write_buses(file, buses);
     let records = 2 + buses;

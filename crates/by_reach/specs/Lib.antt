@@ -1,3 +1,2 @@
 -- Networks by reach: the network, and that its shares are defined.
 pub mod ByReach
-pub mod ByReachSound

@@ -1,49 +1,50 @@
 -- Counts become row starts, rows are filled behind them, and both together are the rows as a table has them.
-use mathlib.Core.List.{List, [], _++_}
-use mathlib.Core.Path.{_≡_, sym, ap, _∙_}
-use Prim.Native.Nat.{ℕ, _+_, _*_, _≤_}
+use mathlib.Core.List.{List, [], ◌++◌}
+use mathlib.Core.Path.{◌≡◌, sym, ap, ◌∙◌}
+use Prim.Native.Nat.{ℕ, ◌+◌, ◌*◌, ◌≤◌}
 use native.Mathlib.Omega.{arith}
 use lib.ListN.{length}
-use Rattle·lists.specs.Lists.{at, put}
-use Rattle·lists.specs.Below.{sumBelow, joinBelow, mapBelow}
-use Rattle·lists.specs.SumsBelow.{sumBelow-same}
-use Rattle·lists.specs.JoinBelow.{length-joinBelow, length-mapBelow, mapBelow-same}
-use Rattle·lists.specs.Writes.{stored-list}
-use Rattle·table_spec.specs.Limits.{maxLines}
-use Rattle·table_spec.specs.Layout.{laid}
-use Rattle·table_spec.specs.Laid.{length-laid}
-use Rattle·row_builder.specs.GrowingRows.{RowStarts, GrowingRows}
-use Rattle·row_builder.specs.GrowingLaws.{growing-none}
-use Rattle·file_spec.specs.Records.{neighbours}
-use Rattle·file_spec.specs.OrderedRecords.{OrderedRecords, rows-le}
-use Rattle·file_records·specs.specs.RecordSteps.{NeighbourCounts}
+use Rattle.lists.specs.Lists.{at, put}
+use Rattle.lists.specs.Below.{sum_below, join_below, map_below}
+use Rattle.lists.proofs.SumsBelow.{sum_below-same}
+use Rattle.lists.proofs.JoinBelow.{length-join_below, length-map_below, map_below-same}
+use Rattle.lists.proofs.Writes.{stored_list}
+use Rattle.table_spec.specs.Limits.{max_lines}
+use Rattle.table_spec.specs.Layout.{laid}
+use Rattle.table_spec.proofs.Laid.{length-laid}
+use Rattle.row_builder.specs.GrowingRows.{RowStarts, GrowingRows}
+use Rattle.row_builder.proofs.GrowingLaws.{growing_none}
+use Rattle.file_spec.specs.Records.{neighbours}
+use Rattle.file_spec.specs.OrderedRecords.{OrderedRecords}
+use Rattle.file_spec.proofs.OrderedRecords.{rows-le}
+use Rattle.file_records.specs.RecordSteps.{NeighbourCounts}
 
 -- the neighbours that m records give n buses were counted
 module _ {n m : ℕ} {r counts : List ℕ} (w : NeighbourCounts n m r counts) where
   abbrev rows : ℕ → List ℕ
   rows = neighbours n m r
 
-  counted : (i : ℕ) → i ≤ n → sumBelow i (at counts) ≡ sumBelow i (λ j. length (rows j))
-  counted i b = sumBelow-same _ _ i (λ j l. w .each j (omega arith))
+  counted : (i : ℕ) → i ≤ n → sum_below i (at counts) ≡ sum_below i (λ j. length (rows j))
+  counted i b = sum_below-same _ _ i (λ j l. w.each j (omega arith))
 
   -- all rows have so many numbers as the counts add up to: two for each line at most
-  pub numbers-counted : sumBelow n (at counts) ≡ length (joinBelow n rows)
-  numbers-counted = counted n (omega arith) ∙ sym (length-joinBelow n rows)
+  pub numbers-counted : sum_below n (at counts) ≡ length (join_below n rows)
+  numbers-counted = counted n (omega arith) ∙ sym (length-join_below n rows)
 
-  pub numbers-le : OrderedRecords n m r → sumBelow n (at counts) ≤ 2 * maxLines
+  pub numbers-le : OrderedRecords n m r → sum_below n (at counts) ≤ 2 * max_lines
   numbers-le g = omega (arith, numbers-counted, rows-le g)
 
-  pub laid-counted : length (laid n rows) ≡ n + 1 + sumBelow n (at counts)
+  pub laid-counted : length (laid n rows) ≡ n + 1 + sum_below n (at counts)
   laid-counted = omega (arith, length-laid rows n, numbers-counted)
 
   -- rows of which nothing is filled yet
-  pub growing-start : {next all : List ℕ} → RowStarts n counts next → length all ≡ sumBelow n (at counts) → GrowingRows n (λ i. length (rows i)) (λ i. []) next all
-  growing-start s e = growing-none n (λ i. length (rows i)) (s .size) (e ∙ counted n (omega arith)) (λ i b. s .each i b ∙ counted i (omega arith))
+  pub growing_start : {next all : List ℕ} → RowStarts n counts next → length all ≡ sum_below n (at counts) → GrowingRows n (λ i. length (rows i)) (λ i. []) next all
+  growing_start s e = growing_none n (λ i. length (rows i)) s.size (e ∙ counted n (omega arith)) (λ i b. s.each i b ∙ counted i (omega arith))
 
   -- the starts were stored from a place on, and the rows behind them
-  pub laid-stored : (t : List ℕ) (from : ℕ) {t₁ t₂ : List ℕ} → from ≤ length t → t₁ ≡ put t from (mapBelow (n + 1) (λ i. sumBelow i (at counts)))
-      → t₂ ≡ put t₁ (from + n + 1) (joinBelow n rows) → t₂ ≡ put t from (laid n rows)
+  pub laid-stored : (t : List ℕ) (from : ℕ) {t₁ t₂ : List ℕ} → from ≤ length t → t₁ ≡ put t from (map_below (n + 1) (λ i. sum_below i (at counts)))
+      → t₂ ≡ put t₁ (from + n + 1) (join_below n rows) → t₂ ≡ put t from (laid n rows)
   unfolding laid
   laid-stored t from l p q =
-      let e = mapBelow-same (λ i. sumBelow i (at counts)) (λ i. length (joinBelow i rows)) (n + 1) (λ i b. counted i (omega arith) ∙ sym (length-joinBelow i rows)) in
-      q ∙ stored-list t from _ p (omega (arith, length-mapBelow (n + 1) (λ i. sumBelow i (at counts)))) (joinBelow n rows) l ∙ ap (λ s. put t from (s ++ joinBelow n rows)) e
+      let e = map_below-same (λ i. sum_below i (at counts)) (λ i. length (join_below i rows)) (n + 1) (λ i b. counted i (omega arith) ∙ sym (length-join_below i rows)) in
+      q ∙ stored_list t from _ p (omega (arith, length-map_below (n + 1) (λ i. sum_below i (at counts)))) (join_below n rows) l ∙ ap (λ s. put t from (s ++ join_below n rows)) e

@@ -1,25 +1,21 @@
 // The records of a network file, in order: how many neighbours they give each bus, how many different pairs they name, and the rows that they make.
-ghost use mathlib.Core.List.{[]};
-ghost use mathlib.Core.Path.{_≡_};
-ghost use Prim.Native.Nat.{_+_, _*_, _≤_, _<_};
-ghost use lib.ListN.{length};
-ghost use Rattle·lists.specs.Lists.{put};
-ghost use Rattle·lists.specs.Below.{joinBelow};
-ghost use Rattle·table_spec.specs.Layout.{laid};
-ghost use Rattle·row_builder.specs.GrowingRows.{AllZero, GrowingRows};
-ghost use Rattle·file_spec.specs.Records.{neighbours, pairCount};
-ghost use Rattle·file_spec.specs.OrderedRecords.{OrderedRecords};
-ghost use Rattle·file_records·specs.specs.RecordSteps.{equalsLast, NeighbourCounts};
+ghost use Rattle.std.specs.Prelude.{[], ◌≡◌, ◌+◌, ◌*◌, ◌≤◌, ◌<◌, length};
+ghost use Rattle.lists.specs.Lists.{put};
+ghost use Rattle.lists.specs.Below.{join_below};
+ghost use Rattle.table_spec.specs.Layout.{laid};
+ghost use Rattle.row_builder.specs.GrowingRows.{AllZero, GrowingRows};
+ghost use Rattle.file_spec.specs.Records.{neighbours, pair_count};
+ghost use Rattle.file_spec.specs.OrderedRecords.{OrderedRecords};
+ghost use Rattle.file_records.specs.RecordSteps.{equals_last, NeighbourCounts};
+
 use file_sections::ends_of;
 use network::Network;
-use row_builder::append;
-use row_builder::increment;
-use row_builder::store_starts;
+use row_builder::{append, increment, store_starts};
 
 // Whether record k equals the one before it. Of records in order, only such a one names a pair again.
 fn equals_last(section: &[u8], k: usize) -> bool
-    requires { ⌜ 4 * k + 3 < length (now section) ⌝ }
-    ensures { λ b. ⌜ b ≡ equalsLast (now (section .entry)) k ⌝ }
+    requires { 4 * k + 3 < length section.now }
+    ensures { result ≡ equals_last section.now k }
 {
     if k == 0 {
         return false;
@@ -39,8 +35,8 @@ pub fn count_neighbours(
     m: usize,
     counts: &mut [u16; Network::BUSES],
 ) -> usize
-    requires { ⌜ (4 * m ≤ length (now section)) × OrderedRecords n m (now section) × AllZero (now counts) ⌝ }
-    ensures { λ pairs. ⌜ (pairs ≡ pairCount m (now (section .entry))) × NeighbourCounts n m (now (section .entry)) (now (counts .exit)) ⌝ }
+    requires { (4 * m ≤ length section.now) × OrderedRecords n m section.now × AllZero counts.old }
+    ensures { (result ≡ pair_count m section.now) × NeighbourCounts n m section.now counts.new }
 {
     let mut pairs = 0;
     let mut k = 0;
@@ -58,9 +54,9 @@ pub fn count_neighbours(
 
 // Writes the neighbours that m records give each of n buses into its row, where `next` says.
 fn fill_rows(section: &[u8], n: usize, m: usize, next: &mut [u16; Network::BUSES], rows: &mut [u16])
-    requires { ⌜ (4 * m ≤ length (now section)) × OrderedRecords n m (now section) ⌝ }
-    requires { ⌜ GrowingRows n (λ i. length (neighbours n m (now section) i)) (λ i. []) (now next) (now rows) ⌝ }
-    ensures { λ _. ⌜ now (rows .exit) ≡ joinBelow n (neighbours n m (now (section .entry))) ⌝ }
+    requires m_in_bounds { (4 * m ≤ length section.now) × OrderedRecords n m section.now }
+    requires growing_rows { GrowingRows n (λ i. length (neighbours n m section.now i)) (λ i. []) next.old rows.old }
+    ensures { rows.new ≡ join_below n (neighbours n m section.now) }
 {
     let mut k = 0;
     while k < m {
@@ -82,9 +78,9 @@ pub fn store_rows(
     table: &mut [u16],
     from: usize,
 )
-    requires { ⌜ (4 * m ≤ length (now section)) × OrderedRecords n m (now section) × NeighbourCounts n m (now section) (now counts) ⌝ }
-    requires { ⌜ from + length (laid n (neighbours n m (now section))) ≤ length (now table) ⌝ }
-    ensures { λ _. ⌜ now (table .exit) ≡ put (now (table .entry)) from (laid n (neighbours n m (now (section .entry)))) ⌝ }
+    requires m_in_bounds { (4 * m ≤ length section.now) × OrderedRecords n m section.now × NeighbourCounts n m section.now counts.old }
+    requires section_in_bounds { from + length (laid n (neighbours n m section.now)) ≤ length table.old }
+    ensures { table.new ≡ put table.old from (laid n (neighbours n m section.now)) }
 {
     let numbers = store_starts(counts, n, table, from);
     let first = from + n + 1;

@@ -1,36 +1,34 @@
 // The network file: where it has what, whether its counts, its needs, its weights and the ends of its records are sound, and whether its records are in order.
-ghost use mathlib.Core.Bool.{_||_};
-ghost use mathlib.Core.List.{_++_};
-ghost use mathlib.Core.Path.{_≡_};
-ghost use Prim.Native.Nat.{_+_, _*_, _≤_, _<_};
-ghost use lib.ListN.{length};
-ghost use Rattle·lists.specs.Below.{mapBelow};
-ghost use Rattle·refusals.specs.Outcomes.{outcome};
-ghost use Rattle·table_spec.specs.Limits.{maxBuses, maxLines};
-ghost use Rattle·table_spec.specs.Holds.{needsInRange, weightsInRange};
-ghost use Rattle·file_spec.specs.FileBytes.{wordAt, fileBusCount, needsEnd, needBytes, fileLineCount, recordsEnd, records, firstEnd, secondEnd, fileWeightCount, weightBytes, weightIn};
-ghost use Rattle·file_spec.specs.Sections.{busSectionCauses, lineCountCauses, missingCauses, weightSectionCauses, endCauses, lineSectionCauses, counts, sectionsOutcome, twoBuses, soundEnds};
-ghost use Rattle·file_spec.specs.SoundSections.{SoundSections};
-ghost use Rattle·file_spec.specs.RecordOrder.{turned, falls, outOfOrder};
-ghost use Rattle·file_sections·specs.specs.FileAnswers.{outcomeOfCount, outcomeOfReading};
-pub use network::Counts;
-use network::Network;
-pub use network::Refusal;
-use network::within;
+ghost use Rattle.std.specs.Prelude.{◌||◌, ◌++◌, ◌≡◌, ◌+◌, ◌*◌, ◌≤◌, ◌<◌, length};
+ghost use Rattle.lists.specs.Below.{map_below};
+ghost use Rattle.refusals.specs.Outcomes.{outcome};
+ghost use Rattle.table_spec.specs.Limits.{max_buses, max_lines};
+ghost use Rattle.table_spec.specs.Holds.{needs_in_range, weights_in_range};
+ghost use Rattle.file_spec.specs.FileBytes.{word_at, file_bus_count, needs_end, need_bytes, file_line_count, records_end, records, first_end, second_end, file_weight_count, weight_bytes, weight_in};
+ghost use Rattle.file_spec.specs.Sections.{bus_section_causes, line_count_causes, missing_causes, weight_section_causes, end_causes, line_section_causes, counts, sections_outcome, two_buses, sound_ends};
+ghost use Rattle.file_spec.specs.SoundSections.{SoundSections};
+ghost use Rattle.file_spec.specs.RecordOrder.{turned, falls, out_of_order};
+ghost use Rattle.file_sections.specs.FileAnswers.{outcome_of_count, outcome_of_reading};
+
+pub use network::{Counts, Refusal};
+use network::{Network, within};
 
 // A count of a file, or why the file is refused.
+#[derive(Drop)]
 pub enum Counted {
     Is(usize),
     Refused(Refusal),
 }
 
 // The counts of a file's network, or why the file is refused.
+#[derive(Drop)]
 pub enum Reading {
     Accepted(Counts),
     Refused(Refusal),
 }
 
 // The two bus numbers of a record.
+#[derive(Drop)]
 pub struct Ends {
     pub first: usize,
     pub second: usize,
@@ -38,8 +36,8 @@ pub struct Ends {
 
 // The two-byte number at place i, low byte first.
 pub fn word(bytes: &[u8], i: usize) -> usize
-    requires { ⌜ i + 1 < length (now bytes) ⌝ }
-    ensures { λ r. ⌜ (r ≡ wordAt (now (bytes .entry)) i) × (r < 65536) ⌝ }
+    requires { i + 1 < length bytes.now }
+    ensures { (result ≡ word_at bytes.now i) × (result < 65536) }
 {
     let low = bytes[i] as usize;
     let high = bytes[i + 1] as usize;
@@ -48,16 +46,16 @@ pub fn word(bytes: &[u8], i: usize) -> usize
 
 // The need bytes of a file of n buses.
 pub fn need_bytes(file: &[u8], n: usize) -> &[u8]
-    requires { ⌜ (n ≡ fileBusCount (now file)) × (needsEnd (now file) ≤ length (now file)) ⌝ }
-    ensures { λ r. ⌜ now r ≡ needBytes (now (file .entry)) ⌝ }
+    requires { (n ≡ file_bus_count file.now) × (needs_end file.now ≤ length file.now) }
+    ensures { result.now ≡ need_bytes file.now }
 {
     &file[2..2 + n]
 }
 
 // The bytes of the m records of a file of n buses.
 pub fn records(file: &[u8], n: usize, m: usize) -> &[u8]
-    requires { ⌜ (n ≡ fileBusCount (now file)) × (m ≡ fileLineCount (now file)) × SoundSections (now file) ⌝ }
-    ensures { λ r. ⌜ now r ≡ records (now (file .entry)) ⌝ }
+    requires { (n ≡ file_bus_count file.now) × (m ≡ file_line_count file.now) × SoundSections file.now }
+    ensures { result.now ≡ records file.now }
 {
     let from = 2 + n + 2;
     let end = from + 4 * m;
@@ -66,8 +64,8 @@ pub fn records(file: &[u8], n: usize, m: usize) -> &[u8]
 
 // The bytes of the weights of a file of n buses and m records; none if it ends behind the records.
 pub fn weight_bytes(file: &[u8], n: usize, m: usize) -> &[u8]
-    requires { ⌜ (n ≡ fileBusCount (now file)) × (m ≡ fileLineCount (now file)) × SoundSections (now file) ⌝ }
-    ensures { λ r. ⌜ now r ≡ weightBytes (now (file .entry)) ⌝ }
+    requires { (n ≡ file_bus_count file.now) × (m ≡ file_line_count file.now) × SoundSections file.now }
+    ensures { result.now ≡ weight_bytes file.now }
 {
     let end = 2 + n + 2 + 4 * m;
     if file.len() <= end {
@@ -79,8 +77,8 @@ pub fn weight_bytes(file: &[u8], n: usize, m: usize) -> &[u8]
 
 // The weight that the bytes of a section of weights give a bus; where there are none, 1.
 pub fn weight_in(section: &[u8], bus: usize) -> usize
-    requires { ⌜ (0 < length (now section) → 2 * bus + 1 < length (now section)) ⌝ }
-    ensures { λ r. ⌜ (r ≡ weightIn (now (section .entry)) bus) × (r < 65536) ⌝ }
+    requires { 0 < length section.now → 2 * bus + 1 < length section.now }
+    ensures { (result ≡ weight_in section.now bus) × (result < 65536) }
 {
     if section.len() == 0 {
         return 1;
@@ -90,7 +88,7 @@ pub fn weight_in(section: &[u8], bus: usize) -> usize
 
 // Whether every need is one that a bus may have.
 fn needs_in_range(needs: &[u8]) -> bool
-    ensures { λ b. ⌜ b ≡ needsInRange (now (needs .entry)) ⌝ }
+    ensures { result ≡ needs_in_range needs.now }
 {
     let mut bus = 0;
     while bus < needs.len() {
@@ -104,7 +102,7 @@ fn needs_in_range(needs: &[u8]) -> bool
 
 // The bus count of a file, if that and the needs are sound.
 pub fn bus_section(file: &[u8]) -> Counted
-    ensures { λ r. ⌜ outcomeOfCount r ≡ outcome (busSectionCauses (now (file .entry))) (fileBusCount (now (file .entry))) ⌝ }
+    ensures { outcome_of_count result ≡ outcome (bus_section_causes file.now) (file_bus_count file.now) }
 {
     if file.len() < 2 {
         return Counted::Refused(Refusal::FileTooShort);
@@ -124,8 +122,8 @@ pub fn bus_section(file: &[u8]) -> Counted
 
 // The line count of a file of n buses, if it is sound.
 pub fn line_count(file: &[u8], n: usize) -> Counted
-    requires { ⌜ (n ≡ fileBusCount (now file)) × (n ≤ maxBuses) ⌝ }
-    ensures { λ r. ⌜ outcomeOfCount r ≡ outcome (lineCountCauses (now (file .entry))) (fileLineCount (now (file .entry))) ⌝ }
+    requires { (n ≡ file_bus_count file.now) × (n ≤ max_buses) }
+    ensures { outcome_of_count result ≡ outcome (line_count_causes file.now) (file_line_count file.now) }
 {
     let from = 2 + n;
     if file.len() < from + 2 {
@@ -140,8 +138,8 @@ pub fn line_count(file: &[u8], n: usize) -> Counted
 
 // Where the m records of a file of n buses end, if they are complete.
 pub fn records_end(file: &[u8], n: usize, m: usize) -> Counted
-    requires { ⌜ (n ≡ fileBusCount (now file)) × (n ≤ maxBuses) × (m ≡ fileLineCount (now file)) × (m ≤ maxLines) ⌝ }
-    ensures { λ r. ⌜ outcomeOfCount r ≡ outcome (missingCauses (now (file .entry))) (recordsEnd (now (file .entry))) ⌝ }
+    requires { (n ≡ file_bus_count file.now) × (n ≤ max_buses) × (m ≡ file_line_count file.now) × (m ≤ max_lines) }
+    ensures { outcome_of_count result ≡ outcome (missing_causes file.now) (records_end file.now) }
 {
     let end = 2 + n + 2 + 4 * m;
     if file.len() < end {
@@ -152,8 +150,8 @@ pub fn records_end(file: &[u8], n: usize, m: usize) -> Counted
 
 // Whether every weight that the bytes of a section give n buses is one that a bus may have.
 fn weights_in_range(section: &[u8], n: usize) -> bool
-    requires { ⌜ 2 * n ≤ length (now section) ⌝ }
-    ensures { λ b. ⌜ b ≡ weightsInRange (mapBelow n (weightIn (now (section .entry)))) ⌝ }
+    requires { 2 * n ≤ length section.now }
+    ensures { result ≡ weights_in_range (map_below n (weight_in section.now)) }
 {
     let mut bus = 0;
     while bus < n {
@@ -167,8 +165,8 @@ fn weights_in_range(section: &[u8], n: usize) -> bool
 
 // The weight count of a file of n buses whose records end at place `from`, if the section of weights is sound and the file ends behind it.
 fn weight_section(file: &[u8], n: usize, from: usize) -> Counted
-    requires { ⌜ (n ≡ fileBusCount (now file)) × (n ≤ maxBuses) × (from ≡ recordsEnd (now file)) × (fileLineCount (now file) ≤ maxLines) ⌝ }
-    ensures { λ r. ⌜ outcomeOfCount r ≡ outcome (weightSectionCauses (now (file .entry))) (fileWeightCount (now (file .entry))) ⌝ }
+    requires { (n ≡ file_bus_count file.now) × (n ≤ max_buses) × (from ≡ records_end file.now) × (file_line_count file.now ≤ max_lines) }
+    ensures { outcome_of_count result ≡ outcome (weight_section_causes file.now) (file_weight_count file.now) }
 {
     let weights_at = from + 2;
     if file.len() < weights_at {
@@ -192,8 +190,8 @@ fn weight_section(file: &[u8], n: usize, from: usize) -> Counted
 
 // Judges what follows the m records of a file of n buses, which end at place `from`: nothing, or a section of weights.
 pub fn judge_weights(file: &[u8], n: usize, m: usize, from: usize) -> Reading
-    requires { ⌜ (n ≡ fileBusCount (now file)) × (n ≤ maxBuses) × (m ≡ fileLineCount (now file)) × (m ≤ maxLines) × (from ≡ recordsEnd (now file)) ⌝ }
-    ensures { λ r. ⌜ outcomeOfReading r ≡ outcome (endCauses (now (file .entry))) (counts (now (file .entry))) ⌝ }
+    requires { (n ≡ file_bus_count file.now) × (n ≤ max_buses) × (m ≡ file_line_count file.now) × (m ≤ max_lines) × (from ≡ records_end file.now) }
+    ensures { outcome_of_reading result ≡ outcome (end_causes file.now) (counts file.now) }
 {
     if file.len() <= from {
         return Reading::Accepted(Counts { buses: n, lines: m });
@@ -206,8 +204,8 @@ pub fn judge_weights(file: &[u8], n: usize, m: usize, from: usize) -> Reading
 
 // Judges where a file of n buses and m records ends.
 fn judge_end(file: &[u8], n: usize, m: usize) -> Reading
-    requires { ⌜ (n ≡ fileBusCount (now file)) × (n ≤ maxBuses) × (m ≡ fileLineCount (now file)) × (m ≤ maxLines) ⌝ }
-    ensures { λ r. ⌜ outcomeOfReading r ≡ outcome (missingCauses (now (file .entry)) ++ endCauses (now (file .entry))) (counts (now (file .entry))) ⌝ }
+    requires { (n ≡ file_bus_count file.now) × (n ≤ max_buses) × (m ≡ file_line_count file.now) × (m ≤ max_lines) }
+    ensures { outcome_of_reading result ≡ outcome (missing_causes file.now ++ end_causes file.now) (counts file.now) }
 {
     match records_end(file, n, m) {
         Counted::Refused(cause) => Reading::Refused(cause),
@@ -217,8 +215,8 @@ fn judge_end(file: &[u8], n: usize, m: usize) -> Reading
 
 // Judges what follows the needs of a file of n buses.
 fn judge_lines(file: &[u8], n: usize) -> Reading
-    requires { ⌜ (n ≡ fileBusCount (now file)) × (n ≤ maxBuses) ⌝ }
-    ensures { λ r. ⌜ outcomeOfReading r ≡ outcome (lineSectionCauses (now (file .entry))) (counts (now (file .entry))) ⌝ }
+    requires { (n ≡ file_bus_count file.now) × (n ≤ max_buses) }
+    ensures { outcome_of_reading result ≡ outcome (line_section_causes file.now) (counts file.now) }
 {
     match line_count(file, n) {
         Counted::Refused(cause) => Reading::Refused(cause),
@@ -228,7 +226,7 @@ fn judge_lines(file: &[u8], n: usize) -> Reading
 
 // Judges all of a file but what its records say. Gives its two counts; that of lines is how many records there are.
 pub fn judge(file: &[u8]) -> Reading
-    ensures { λ r. ⌜ outcomeOfReading r ≡ sectionsOutcome (now (file .entry)) ⌝ }
+    ensures { outcome_of_reading result ≡ sections_outcome file.now }
 {
     match bus_section(file) {
         Counted::Refused(cause) => Reading::Refused(cause),
@@ -238,8 +236,8 @@ pub fn judge(file: &[u8]) -> Reading
 
 // Record k of a section of records.
 pub fn ends_of(section: &[u8], k: usize) -> Ends
-    requires { ⌜ 4 * k + 3 < length (now section) ⌝ }
-    ensures { λ r. ⌜ (r .first ≡ firstEnd (now (section .entry)) k) × (r .second ≡ secondEnd (now (section .entry)) k) ⌝ }
+    requires { 4 * k + 3 < length section.now }
+    ensures { (result.first ≡ first_end section.now k) × (result.second ≡ second_end section.now k) }
 {
     let from = 4 * k;
     let first = word(section, from);
@@ -249,7 +247,7 @@ pub fn ends_of(section: &[u8], k: usize) -> Ends
 
 // Whether a and b are two different buses below n.
 fn two_buses(n: usize, a: usize, b: usize) -> bool
-    ensures { λ r. ⌜ r ≡ twoBuses n a b ⌝ }
+    ensures { result ≡ two_buses n a b }
 {
     if n <= a {
         return false;
@@ -262,8 +260,8 @@ fn two_buses(n: usize, a: usize, b: usize) -> bool
 
 // Whether each of m records names two different buses below n.
 pub fn sound_ends(section: &[u8], n: usize, m: usize) -> bool
-    requires { ⌜ 4 * m ≤ length (now section) ⌝ }
-    ensures { λ b. ⌜ b ≡ soundEnds n m (now (section .entry)) ⌝ }
+    requires { 4 * m ≤ length section.now }
+    ensures { result ≡ sound_ends n m section.now }
 {
     let mut k = 0;
     while k < m {
@@ -278,8 +276,8 @@ pub fn sound_ends(section: &[u8], n: usize, m: usize) -> bool
 
 // Whether record k is out of order: it names its higher bus first, or is below the one before it.
 fn misplaced(section: &[u8], k: usize) -> bool
-    requires { ⌜ 4 * k + 3 < length (now section) ⌝ }
-    ensures { λ b. ⌜ b ≡ (turned (now (section .entry)) k || falls (now (section .entry)) k) ⌝ }
+    requires { 4 * k + 3 < length section.now }
+    ensures { result ≡ (turned section.now k || falls section.now k) }
 {
     let ends = ends_of(section, k);
     if ends.second < ends.first {
@@ -297,8 +295,8 @@ fn misplaced(section: &[u8], k: usize) -> bool
 
 // Whether one of m records is out of order.
 pub fn out_of_order(section: &[u8], m: usize) -> bool
-    requires { ⌜ 4 * m ≤ length (now section) ⌝ }
-    ensures { λ b. ⌜ b ≡ outOfOrder m (now (section .entry)) ⌝ }
+    requires { 4 * m ≤ length section.now }
+    ensures { result ≡ out_of_order m section.now }
 {
     let mut k = 0;
     while k < m {

@@ -2,11 +2,9 @@
 pub mod FileBytes
 pub mod Sections
 pub mod SectionExamples
-pub mod WeightBytes
 pub mod SoundSections
 pub mod RecordOrder
 pub mod Records
 pub mod RecordExamples
 pub mod RecordPairs
-pub mod RecordNeighbours
 pub mod OrderedRecords

@@ -1,75 +1,71 @@
 -- Which files have sound sections: refusals 1 to 5, 19 and 20, in file order, and the test of record ends that 6 rests on.
 -- Definitions only.
-use mathlib.Core.Bool.{Bool, cond, not, _&&_}
-use mathlib.Core.List.{List, [], _∷_, _++_}
-use Prim.Native.Nat.{ℕ}
-use lib.Dec.{ltb, eqb}
-use lib.ListN.{length}
-use Rattle·lists.specs.Below.{allBelow}
-use Rattle·refusals.specs.declared.Refusal.the-variants.{FileTooShort, BusCount, Need, LineCount, FileTooLong, WeightCount, Weight}
-use Rattle·refusals.specs.Outcomes.{Outcome, Cause, _⇒_, outcome}
-use Rattle·table_spec.specs.Limits.{maxBuses, maxLines}
-use Rattle·table_spec.specs.Holds.{within, needsInRange, weightsInRange}
-use Rattle·network.specs.declared.Counts.{Counts}
-use Rattle·file_spec·specs.specs.FileBytes.{fileBusCount, needsEnd, needBytes, fileLineCount, recordsAt, recordsEnd, firstEnd, secondEnd, fileWeightCount, weightsAt, weightsEnd, fileWeights}
+use Rattle.std.specs.Prelude.{Bool, cond, not, ◌&&◌, List, [], ◌∷◌, ◌++◌, ℕ, ltb, eqb, length}
+use Rattle.lists.specs.Below.{all_below}
+use Rattle.refusals.specs.declared.Refusal.TheVariants.{FileTooShort, BusCount, Need, LineCount, FileTooLong, WeightCount, Weight}
+use Rattle.refusals.specs.Outcomes.{Outcome, Cause, ◌⇒◌, outcome}
+use Rattle.table_spec.specs.Limits.{max_buses, max_lines}
+use Rattle.table_spec.specs.Holds.{within, needs_in_range, weights_in_range}
+use Rattle.network.specs.declared.Counts.{Counts}
+use Rattle.file_spec.specs.FileBytes.{file_bus_count, needs_end, need_bytes, file_line_count, records_at, records_end, first_end, second_end, file_weight_count, weights_at, weights_end, file_weights}
 
 -- the file ends before place i
-unfoldable pub endsBefore : ℕ → List ℕ → Bool
-endsBefore i f = ltb (length f) i
+unfoldable pub ends_before : ℕ → List ℕ → Bool
+ends_before i f = ltb (length f) i
 
 -- bytes stand at place i or behind it
-unfoldable pub goesOn : ℕ → List ℕ → Bool
-goesOn i f = ltb i (length f)
+unfoldable pub goes_on : ℕ → List ℕ → Bool
+goes_on i f = ltb i (length f)
 
 -- bus count complete, its range, needs complete, their range
-abbrev pub busSectionCauses : List ℕ → List Cause
-busSectionCauses f =
-    (endsBefore 2 f ⇒ FileTooShort)
-    ∷ (not (within 1 maxBuses (fileBusCount f)) ⇒ BusCount)
-    ∷ (endsBefore (needsEnd f) f ⇒ FileTooShort)
-    ∷ (not (needsInRange (needBytes f)) ⇒ Need)
+abbrev pub bus_section_causes : List ℕ → List Cause
+bus_section_causes f =
+    (ends_before 2 f ⇒ FileTooShort)
+    ∷ (not (within 1 max_buses (file_bus_count f)) ⇒ BusCount)
+    ∷ (ends_before (needs_end f) f ⇒ FileTooShort)
+    ∷ (not (needs_in_range (need_bytes f)) ⇒ Need)
     ∷ []
 
 -- line count complete, its range
-abbrev pub lineCountCauses : List ℕ → List Cause
-lineCountCauses f = (endsBefore (recordsAt f) f ⇒ FileTooShort) ∷ (not (within 0 maxLines (fileLineCount f)) ⇒ LineCount) ∷ []
+abbrev pub line_count_causes : List ℕ → List Cause
+line_count_causes f = (ends_before (records_at f) f ⇒ FileTooShort) ∷ (not (within 0 max_lines (file_line_count f)) ⇒ LineCount) ∷ []
 
 -- records complete
-abbrev pub missingCauses : List ℕ → List Cause
-missingCauses f = (endsBefore (recordsEnd f) f ⇒ FileTooShort) ∷ []
+abbrev pub missing_causes : List ℕ → List Cause
+missing_causes f = (ends_before (records_end f) f ⇒ FileTooShort) ∷ []
 
 -- weight count complete, n again, weights complete, their range, end of file
-abbrev pub weightSectionCauses : List ℕ → List Cause
-weightSectionCauses f =
-    (endsBefore (weightsAt f) f ⇒ FileTooShort)
-    ∷ (not (eqb (fileWeightCount f) (fileBusCount f)) ⇒ WeightCount)
-    ∷ (endsBefore (weightsEnd f) f ⇒ FileTooShort)
-    ∷ (not (weightsInRange (fileWeights f)) ⇒ Weight)
-    ∷ (goesOn (weightsEnd f) f ⇒ FileTooLong)
+abbrev pub weight_section_causes : List ℕ → List Cause
+weight_section_causes f =
+    (ends_before (weights_at f) f ⇒ FileTooShort)
+    ∷ (not (eqb (file_weight_count f) (file_bus_count f)) ⇒ WeightCount)
+    ∷ (ends_before (weights_end f) f ⇒ FileTooShort)
+    ∷ (not (weights_in_range (file_weights f)) ⇒ Weight)
+    ∷ (goes_on (weights_end f) f ⇒ FileTooLong)
     ∷ []
 
 -- so is judged what follows the records, if anything does
-abbrev pub endCauses : List ℕ → List Cause
-endCauses f = cond (goesOn (recordsEnd f) f) (weightSectionCauses f) []
+abbrev pub end_causes : List ℕ → List Cause
+end_causes f = cond (goes_on (records_end f) f) (weight_section_causes f) []
 
 -- behind the needs; and all, in file order
-abbrev pub lineSectionCauses : List ℕ → List Cause
-lineSectionCauses f = lineCountCauses f ++ missingCauses f ++ endCauses f
+abbrev pub line_section_causes : List ℕ → List Cause
+line_section_causes f = line_count_causes f ++ missing_causes f ++ end_causes f
 
-abbrev pub sectionCauses : List ℕ → List Cause
-sectionCauses f = busSectionCauses f ++ lineSectionCauses f
+abbrev pub section_causes : List ℕ → List Cause
+section_causes f = bus_section_causes f ++ line_section_causes f
 
 -- n, and how many records there are
 abbrev pub counts : List ℕ → Counts
-counts f = record { buses = fileBusCount f; lines = fileLineCount f }
+counts f = record { buses = file_bus_count f; lines = file_line_count f }
 
-abbrev pub sectionsOutcome : List ℕ → Outcome Counts
-sectionsOutcome f = outcome (sectionCauses f) (counts f)
+abbrev pub sections_outcome : List ℕ → Outcome Counts
+sections_outcome f = outcome (section_causes f) (counts f)
 
 -- a and b are two different buses below n
-unfoldable pub twoBuses : ℕ → ℕ → ℕ → Bool
-twoBuses n a b = ltb a n && ltb b n && not (eqb a b)
+unfoldable pub two_buses : ℕ → ℕ → ℕ → Bool
+two_buses n a b = ltb a n && ltb b n && not (eqb a b)
 
 -- so are the ends of each of the first m records
-unfoldable pub soundEnds : ℕ → ℕ → List ℕ → Bool
-soundEnds n m r = allBelow m (λ k. twoBuses n (firstEnd r k) (secondEnd r k))
+unfoldable pub sound_ends : ℕ → ℕ → List ℕ → Bool
+sound_ends n m r = all_below m (λ k. two_buses n (first_end r k) (second_end r k))

@@ -1,29 +1,26 @@
 -- Cancelling a fraction: the outcome that an answer of `cancel` stands for, which one is due, and the rule that it obeys.
 -- Definitions only.
-use mathlib.Core.List.{[], _∷_}
-use mathlib.Core.Path.{_≡_}
-use Prim.Native.Nat.{ℕ, _*_, _/_, _<_}
-use lib.Dec.{eqb}
-use Rattle·refusals.specs.declared.Refusal.the-variants.{NoDenominator}
-use Rattle·refusals.specs.Numbers.{numberOf}
-use Rattle·refusals.specs.Outcomes.{Outcome, gives, refuses, _⇒_, outcome}
-use Rattle·fraction·specs.specs.declared.Cancelled.{Cancelled}
-use Rattle·fraction·specs.specs.declared.Cancelled.the-variants.{Pair, Refused}
-use Rattle·fraction·specs.specs.Divisors.{IsGcd, gcdOf}
+use Rattle.std.specs.Prelude.{[], ◌∷◌, ◌≡◌, ℕ, ◌*◌, ◌/◌, ◌<◌, eqb}
+use Rattle.refusals.specs.declared.Refusal.TheVariants.{NoDenominator}
+use Rattle.refusals.specs.Numbers.{number_of}
+use Rattle.refusals.specs.Outcomes.{Outcome, gives, refuses, ◌⇒◌, outcome}
+use Rattle.fraction.specs.declared.Cancelled.{Cancelled}
+use Rattle.fraction.specs.declared.Cancelled.TheVariants.{Pair, Refused}
+use Rattle.fraction.specs.Divisors.{IsGcd, gcd_of}
 
 -- the values of an answer, or the scope's number of the refusal
-abbrev pub outcomeOfCancelled : Cancelled → Outcome (ℕ × ℕ)
-outcomeOfCancelled (Pair p q) = gives (p, q)
-outcomeOfCancelled (Refused r) = refuses (numberOf r)
+abbrev pub outcome_of_cancelled : Cancelled → Outcome (ℕ × ℕ)
+outcome_of_cancelled (Pair p q) = gives (p, q)
+outcome_of_cancelled (Refused r) = refuses (number_of r)
 
 -- both numbers divided by their greatest common divisor
 abbrev pub cancelled : ℕ → ℕ → ℕ × ℕ
-cancelled a b = (a / gcdOf a b, b / gcdOf a b)
+cancelled a b = (a / gcd_of a b, b / gcd_of a b)
 
 -- denominator 0 is refused whatever the numerator
-unfoldable pub cancelOutcome : ℕ → ℕ → Outcome (ℕ × ℕ)
-unfolding gcdOf
-cancelOutcome a b = outcome ((eqb b 0 ⇒ NoDenominator) ∷ []) (cancelled a b)
+unfoldable pub cancel_outcome : ℕ → ℕ → Outcome (ℕ × ℕ)
+unfolding gcd_of
+cancel_outcome a b = outcome ((eqb b 0 ⇒ NoDenominator) ∷ []) (cancelled a b)
 
 -- p over q is a over b with the greatest common divisor of a and b taken out, and b is not 0
 pub record CancelsTo (a b p q : ℕ) : Type 0 where

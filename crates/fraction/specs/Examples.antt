@@ -1,52 +1,50 @@
 -- Small fractions, the widest ones, and common multiples, computed.
-use mathlib.Core.List.{[], _∷_}
-use mathlib.Core.Path.{_≡_, refl}
-use Prim.Native.Nat.{_-_, _^_}
-use Rattle·refusals.specs.Outcomes.{gives, refuses}
-use Rattle·fraction·specs.specs.Divisors.{gcdOf, lcmOf, lcmAll}
-use Rattle·fraction·specs.specs.Cancel.{cancelOutcome}
+use Rattle.std.specs.Prelude.{[], ◌∷◌, ◌≡◌, refl, ◌-◌, ◌^◌}
+use Rattle.refusals.specs.Outcomes.{gives, refuses}
+use Rattle.fraction.specs.Divisors.{gcd_of, lcm_of, lcm_all}
+use Rattle.fraction.specs.Cancel.{cancel_outcome}
 
-eight-sixths : cancelOutcome 8 6 ≡ gives (4, 3)
-unfolding cancelOutcome
-eight-sixths = refl
+eight_sixths : cancel_outcome 8 6 ≡ gives (4, 3)
+unfolding cancel_outcome
+eight_sixths = refl
 
-no-fifths : cancelOutcome 0 5 ≡ gives (0, 1)
-unfolding cancelOutcome
-no-fifths = refl
+no_fifths : cancel_outcome 0 5 ≡ gives (0, 1)
+unfolding cancel_outcome
+no_fifths = refl
 
-nothing-over-nothing : cancelOutcome 0 0 ≡ refuses 9
-unfolding cancelOutcome
-nothing-over-nothing = refl
+nothing_over_nothing : cancel_outcome 0 0 ≡ refuses 9
+unfolding cancel_outcome
+nothing_over_nothing = refl
 
-seven-over-nothing : cancelOutcome 7 0 ≡ refuses 9
-unfolding cancelOutcome
-seven-over-nothing = refl
+seven_over_nothing : cancel_outcome 7 0 ≡ refuses 9
+unfolding cancel_outcome
+seven_over_nothing = refl
 
-widest : cancelOutcome (2 ^ 64 - 1) (2 ^ 64 - 1) ≡ gives (1, 1)
-unfolding cancelOutcome
+widest : cancel_outcome (2 ^ 64 - 1) (2 ^ 64 - 1) ≡ gives (1, 1)
+unfolding cancel_outcome
 widest = refl
 
-widest-twos : cancelOutcome (2 ^ 63) (2 ^ 64 - 2) ≡ gives (2 ^ 62, 2 ^ 63 - 1)
-unfolding cancelOutcome
-widest-twos = refl
+widest_twos : cancel_outcome (2 ^ 63) (2 ^ 64 - 2) ≡ gives (2 ^ 62, 2 ^ 63 - 1)
+unfolding cancel_outcome
+widest_twos = refl
 
 -- every number divides 0, and the one that all of them divide is 0
-gcd-of-zeros : gcdOf 0 0 ≡ 0
-unfolding gcdOf
-gcd-of-zeros = refl
+gcd_of_zeros : gcd_of 0 0 ≡ 0
+unfolding gcd_of
+gcd_of_zeros = refl
 
-four-and-six : lcmOf 4 6 ≡ 12
-unfolding lcmOf
-four-and-six = refl
+four_and_six : lcm_of 4 6 ≡ 12
+unfolding lcm_of
+four_and_six = refl
 
-one-to-three : lcmAll (1 ∷ 2 ∷ 3 ∷ []) ≡ 6
-unfolding lcmAll
-one-to-three = refl
+one_to_three : lcm_all (1 ∷ 2 ∷ 3 ∷ []) ≡ 6
+unfolding lcm_all
+one_to_three = refl
 
-in-any-order : lcmAll (6 ∷ 4 ∷ 6 ∷ 1 ∷ []) ≡ 12
-unfolding lcmAll
-in-any-order = refl
+in_any_order : lcm_all (6 ∷ 4 ∷ 6 ∷ 1 ∷ []) ≡ 12
+unfolding lcm_all
+in_any_order = refl
 
-of-none : lcmAll [] ≡ 1
-unfolding lcmAll
-of-none = refl
+of_none : lcm_all [] ≡ 1
+unfolding lcm_all
+of_none = refl

@@ -2,7 +2,4 @@
 pub mod Divisors
 pub mod Cancel
 pub mod Examples
-pub mod Gcd
 pub mod Odd
-pub mod Lcm
-pub mod Lowest

@@ -1,18 +1,20 @@
 // Fractions of whole numbers: greatest common divisors, pairs in lowest terms, least common multiples.
-ghost use mathlib.Core.Path.{_≡_};
-ghost use Prim.Native.Nat.{_+_, _-_, _^_, _<_, min};
-ghost use Rattle·fraction·specs.specs.Divisors.{IsGcd, IsLcm, lcmOf};
-ghost use Rattle·fraction·specs.specs.Cancel.{outcomeOfCancelled, cancelled, cancelOutcome, CancelRule};
-ghost use Rattle·fraction·specs.specs.Odd.{OddPart};
+ghost use Rattle.std.specs.Prelude.{◌≡◌, ◌+◌, ◌-◌, ◌^◌, ◌<◌, min};
+ghost use Rattle.fraction.specs.Divisors.{IsGcd, IsLcm, lcm_of};
+ghost use Rattle.fraction.specs.Cancel.{outcome_of_cancelled, cancelled, cancel_outcome, CancelRule};
+ghost use Rattle.fraction.specs.Odd.{OddPart};
+
 use refusals::Refusal;
 
 // Numerator and denominator in lowest terms, or why there is no such pair.
+#[derive(Drop)]
 pub enum Cancelled {
     Pair(u64, u64),
     Refused(Refusal),
 }
 
 // A fraction in lowest terms.
+#[derive(Drop)]
 pub struct Lowest {
     pub top: u64,
     pub bottom: u64,
@@ -20,20 +22,20 @@ pub struct Lowest {
 
 // x divided by 2 until it is odd.
 fn odd_part(x: u64) -> u64
-    requires { ⌜ 0 < x ⌝ }
-    ensures { λ r. ⌜ OddPart x r ⌝ }
+    requires { 0 < x }
+    ensures { OddPart x result }
 {
     x >> u64::trailing_zeros(x)
 }
 
 fn least(a: u64, b: u64) -> u64
-    ensures { λ r. ⌜ r ≡ min a b ⌝ }
+    ensures { result ≡ min a b }
 {
     if a < b { a } else { b }
 }
 
 fn gap(a: u64, b: u64) -> u64
-    ensures { λ r. ⌜ r ≡ (b - a) + (a - b) ⌝ }
+    ensures { result ≡ (b - a) + (a - b) }
 {
     if a < b { b - a } else { a - b }
 }
@@ -41,7 +43,7 @@ fn gap(a: u64, b: u64) -> u64
 // The greatest common divisor by the binary rule: that of the odd parts, times the twos that x and y share.
 // What divides two odd numbers is odd and divides their gap, so the gap's odd part may stand in for the larger.
 pub fn gcd(x: u64, y: u64) -> u64
-    ensures { λ r. ⌜ IsGcd x y r ⌝ }
+    ensures { IsGcd x y result }
 {
     if x == 0 {
         return y;
@@ -64,8 +66,8 @@ pub fn gcd(x: u64, y: u64) -> u64
 
 // The fraction with its numbers divided by what they share.
 pub fn reduce(numerator: u64, denominator: u64) -> Lowest
-    requires { ⌜ 0 < denominator ⌝ }
-    ensures { λ r. ⌜ (r .top, r .bottom) ≡ cancelled numerator denominator ⌝ }
+    requires { 0 < denominator }
+    ensures { (result.top, result.bottom) ≡ cancelled numerator denominator }
 {
     let g = gcd(numerator, denominator);
     Lowest {
@@ -76,8 +78,8 @@ pub fn reduce(numerator: u64, denominator: u64) -> Lowest
 
 // The fraction in lowest terms.
 pub fn cancel(numerator: u64, denominator: u64) -> Cancelled
-    ensures answer { λ r. ⌜ outcomeOfCancelled r ≡ cancelOutcome numerator denominator ⌝ }
-    ensures rule { λ r. ⌜ CancelRule numerator denominator (outcomeOfCancelled r) ⌝ }
+    ensures answer { outcome_of_cancelled result ≡ cancel_outcome numerator denominator }
+    ensures rule { CancelRule numerator denominator (outcome_of_cancelled result) }
 {
     if denominator == 0 {
         return Cancelled::Refused(Refusal::NoDenominator);
@@ -89,9 +91,9 @@ pub fn cancel(numerator: u64, denominator: u64) -> Cancelled
 // The least common multiple, where it fits; no step exceeds it. A step of Euclid's rule makes a small number quick to fold into a large one.
 // Most such pairs share no factor, and then nothing is divided.
 pub fn lcm(a: u64, b: u64) -> u64
-    requires { ⌜ lcmOf a b < 2 ^ 64 ⌝ }
-    ensures answer { λ r. ⌜ r ≡ lcmOf a b ⌝ }
-    ensures rule { λ r. ⌜ IsLcm a b r ⌝ }
+    requires { lcm_of a b < 2 ^ 64 }
+    ensures answer { result ≡ lcm_of a b }
+    ensures rule { IsLcm a b result }
 {
     if a == 0 {
         return 0;

@@ -1,9 +1,8 @@
 -- The game by reach.
 -- Definitions only.
-use mathlib.Core.List.{List, [], _∷_}
-use Prim.Native.Nat.{ℕ}
-use Rattle·lists.specs.Lists.{_∈_, Once, without}
-use Rattle·game·specs.specs.Game.{Game}
+use Rattle.std.specs.Prelude.{List, [], ◌∷◌, ℕ}
+use Rattle.lists.specs.Lists.{◌∈◌, Once, without}
+use Rattle.game.specs.Game.{Game}
 
 -- a bus is seen by a recorder in its crowd, to which it belongs. So the others of its crowd watch it, and it needs one
 abbrev pub reach : (ℕ → List ℕ) → (ℕ → ℕ) → Game
@@ -12,6 +11,6 @@ reach crowd weight = record { watchers = λ u. without (u ∷ []) (crowd u); nee
 -- no player stands in the list twice, and the crowd of each is of players, each listed once, and itself among them
 pub record Crowds (ps : List ℕ) (crowd : ℕ → List ℕ) : Type 0 where
   pub once : Once ps
-  pub crowd-once : (u : ℕ) → u ∈ ps → Once (crowd u)
-  pub crowd-inside : (u : ℕ) → u ∈ ps → (w : ℕ) → w ∈ crowd u → w ∈ ps
-  pub crowd-own : (u : ℕ) → u ∈ ps → u ∈ crowd u
+  pub crowd_once : (u : ℕ) → u ∈ ps → Once (crowd u)
+  pub crowd_inside : (u : ℕ) → u ∈ ps → (w : ℕ) → w ∈ crowd u → w ∈ ps
+  pub crowd_own : (u : ℕ) → u ∈ ps → u ∈ crowd u

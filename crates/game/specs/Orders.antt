@@ -1,12 +1,8 @@
 -- Orders of fitting: every list of the players in which each of them stands once.
 -- Definitions only.
-use mathlib.Core.Bool.{Bool, true, false, cond, _&&_}
-use mathlib.Core.List.{List, [], _∷_, _++_, map, flatMap}
-use mathlib.Core.Path.{_≡_}
-use Prim.Native.Nat.{ℕ, zero, suc, _*_, _<_}
-use lib.Dec.{eqb, ltb}
-use lib.ListN.{length}
-use Rattle·lists.specs.Lists.{indicator, countBy, count}
+use Rattle.std.specs.Prelude.{Bool, true, false, cond, ◌&&◌, ◌≡◌, ℕ, zero, suc, ◌*◌, ◌<◌, eqb, ltb, length}
+use mathlib.Core.List.{List, [], ◌∷◌, ◌++◌, map, flat_map}
+use Rattle.lists.specs.Lists.{indicator, count_by, count}
 
 -- the lists made by putting x into l, one for each place
 abbrev pub insertions : ℕ → List ℕ → List (List ℕ)
@@ -16,7 +12,7 @@ insertions x (y ∷ l) = (x ∷ y ∷ l) ∷ map (λ r. y ∷ r) (insertions x l
 -- all orders of a list: its first member is put at each place of each order of the others
 abbrev pub orders : List ℕ → List (List ℕ)
 orders [] = [] ∷ []
-orders (x ∷ l) = flatMap (insertions x) (orders l)
+orders (x ∷ l) = flat_map (insertions x) (orders l)
 
 abbrev pub factorial : ℕ → ℕ
 factorial zero = 1
@@ -44,7 +40,7 @@ same (x ∷ l) (y ∷ m) = eqb x y && same l m
 
 -- how often a list stands among lists
 abbrev pub times : List ℕ → List (List ℕ) → ℕ
-times l ls = countBy (same l) ls
+times l ls = count_by (same l) ls
 
 -- ls holds each of the n! orders of n buses once, and nothing else
 pub record EveryOrderOnce (n : ℕ) (ls : List (List ℕ)) : Type 0 where

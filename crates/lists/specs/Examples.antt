@@ -1,17 +1,13 @@
 -- The vocabulary, computed.
-use mathlib.Core.Bool.{true, false}
-use mathlib.Core.List.{List, [], _∷_}
-use mathlib.Core.Path.{_≡_, refl}
-use Prim.Native.Nat.{ℕ, _*_}
-use lib.Dec.{ltb}
-use Rattle·lists·specs.specs.Lists.{sumBy, count, has, countIn, without, at, put, WrittenAt}
-use Rattle·lists·specs.specs.Below.{allBelow, anyBelow, sumBelow, countBelow, joinBelow, mapBelow, listBelow, range}
+use Rattle.std.specs.Prelude.{true, false, List, [], ◌∷◌, ◌≡◌, refl, ℕ, ◌*◌, ltb}
+use Rattle.lists.specs.Lists.{sum_by, count, has, count_in, without, at, put, WrittenAt}
+use Rattle.lists.specs.Below.{all_below, any_below, sum_below, count_below, join_below, map_below, list_below, range}
 
 abbrev sample : List ℕ
 sample = 4 ∷ 7 ∷ 4 ∷ 9 ∷ []
 
 -- 4 stands in the sample twice, 5 never; two of 7, 8, 9 stand in it, and three of its members in 4, 9
-counts : (count 4 sample ∷ count 5 sample ∷ countIn sample (7 ∷ 8 ∷ 9 ∷ []) ∷ countIn (4 ∷ 9 ∷ []) sample ∷ []) ≡ 2 ∷ 0 ∷ 2 ∷ 3 ∷ []
+counts : (count 4 sample ∷ count 5 sample ∷ count_in sample (7 ∷ 8 ∷ 9 ∷ []) ∷ count_in (4 ∷ 9 ∷ []) sample ∷ []) ≡ 2 ∷ 0 ∷ 2 ∷ 3 ∷ []
 counts = refl
 
 members : (has 9 sample ∷ has 8 sample ∷ []) ≡ true ∷ false ∷ []
@@ -31,19 +27,19 @@ unfolding put
 written = (refl, refl)
 
 -- 0 + 1 + 4 + 9, by the bound and by the list; two of 0, 1, 2, 3 are below 2
-squares : (sumBelow 4 (λ i. i * i) ∷ sumBy (λ i. i * i) (range 4) ∷ countBelow 4 (λ i. ltb i 2) ∷ []) ≡ 14 ∷ 14 ∷ 2 ∷ []
-unfolding sumBelow mapBelow joinBelow
+squares : (sum_below 4 (λ i. i * i) ∷ sum_by (λ i. i * i) (range 4) ∷ count_below 4 (λ i. ltb i 2) ∷ []) ≡ 14 ∷ 14 ∷ 2 ∷ []
+unfolding sum_below map_below join_below
 squares = refl
 
 -- of 0, 1, 2, 3 not all are below 3, but all are below 4; some are above 2, none above 3
-tests : (allBelow 4 (λ i. ltb i 3) ∷ allBelow 4 (λ i. ltb i 4) ∷ anyBelow 4 (ltb 2) ∷ anyBelow 4 (ltb 3) ∷ []) ≡ false ∷ true ∷ true ∷ false ∷ []
-unfolding allBelow anyBelow
+tests : (all_below 4 (λ i. ltb i 3) ∷ all_below 4 (λ i. ltb i 4) ∷ any_below 4 (ltb 2) ∷ any_below 4 (ltb 3) ∷ []) ≡ false ∷ true ∷ true ∷ false ∷ []
+unfolding all_below any_below
 tests = refl
 
-numbers : joinBelow 3 range ≡ 0 ∷ 0 ∷ 1 ∷ []
-unfolding mapBelow joinBelow
+numbers : join_below 3 range ≡ 0 ∷ 0 ∷ 1 ∷ []
+unfolding map_below join_below
 numbers = refl
 
-chosen : listBelow 6 (ltb 2) ≡ 3 ∷ 4 ∷ 5 ∷ []
-unfolding listBelow joinBelow
+chosen : list_below 6 (ltb 2) ≡ 3 ∷ 4 ∷ 5 ∷ []
+unfolding list_below join_below
 chosen = refl

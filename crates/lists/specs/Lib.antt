@@ -17,13 +17,4 @@
 pub mod Lists
 pub mod Below
 pub mod Examples
-pub mod Tests
-pub mod Sums
-pub mod Counts
-pub mod Places
-pub mod Without
-pub mod Loops
-pub mod SumsBelow
-pub mod JoinBelow
-pub mod ListBelow
 pub mod Writes

@@ -1,11 +1,6 @@
 -- Lists of numbers: sums and counts over their members, entries by place, and lists written into a slice.
 -- Definitions only.
-use mathlib.Core.Bool.{Bool, cond}
-use mathlib.Core.List.{List, [], _∷_, _++_}
-use mathlib.Core.Path.{_≡_}
-use Prim.Native.Nat.{ℕ, _+_, _-_, _≤_, _<_}
-use lib.Dec.{eqb, ltb}
-use lib.ListN.{length, getD, take, drop}
+use Rattle.std.specs.Prelude.{Bool, cond, List, [], ◌∷◌, ◌++◌, ◌≡◌, ℕ, ◌+◌, ◌-◌, ◌≤◌, ◌<◌, eqb, ltb, length, get_or, take, drop}
 
 -- 1 where a test passes, 0 where it fails
 abbrev pub indicator : Bool → ℕ
@@ -13,21 +8,21 @@ indicator b = cond b 1 0
 
 module _ {ℓ} {A : Type ℓ} where
   -- the sum of f x over the members x of a list
-  abbrev pub sumBy : (A → ℕ) → List A → ℕ
-  sumBy f [] = 0
-  sumBy f (x ∷ l) = f x + sumBy f l
+  abbrev pub sum_by : (A → ℕ) → List A → ℕ
+  sum_by f [] = 0
+  sum_by f (x ∷ l) = f x + sum_by f l
 
   -- how many members of a list pass a test
-  abbrev pub countBy : (A → Bool) → List A → ℕ
-  countBy p l = sumBy (λ x. indicator (p x)) l
+  abbrev pub count_by : (A → Bool) → List A → ℕ
+  count_by p l = sum_by (λ x. indicator (p x)) l
 
 -- how often x stands in a list
 abbrev pub count : ℕ → List ℕ → ℕ
-count x l = countBy (eqb x) l
+count x l = count_by (eqb x) l
 
 -- x stands in a list
-infix 45 _∈_
-abbrev pub _∈_ : ℕ → List ℕ → Type 0
+infix 45 ◌∈◌
+abbrev pub ◌∈◌ : ℕ → List ℕ → Type 0
 x ∈ l = 0 < count x l
 
 -- does x stand in a list?
@@ -39,8 +34,8 @@ abbrev pub Once : List ℕ → Type 0
 Once l = (x : ℕ) → count x l ≤ 1
 
 -- how many members of l stand in s
-abbrev pub countIn : List ℕ → List ℕ → ℕ
-countIn s l = countBy (λ x. has x s) l
+abbrev pub count_in : List ℕ → List ℕ → ℕ
+count_in s l = count_by (λ x. has x s) l
 
 -- the members of a list that do not stand in s
 abbrev pub without : List ℕ → List ℕ → List ℕ
@@ -49,7 +44,7 @@ without s (x ∷ l) = cond (has x s) (without s l) (x ∷ without s l)
 
 -- entry k of a list; past its end a list has zeros
 unfoldable pub at : List ℕ → ℕ → ℕ
-at l k = getD l k 0
+at l k = get_or l k 0
 
 -- the entries from place a up to, not including, place e
 abbrev pub part : ℕ → ℕ → List ℕ → List ℕ

@@ -1,7 +1,7 @@
 // Networks: their limits, and what a line table has where. A network is a line table in a lent slice.
-ghost use mathlib.Core.Path.{_≡_};
-ghost use Rattle·table_spec.specs.Limits.{maxBuses, maxDegree, maxNeed, maxWeight, maxLines, maxEntries, maxBytes};
-ghost use Rattle·table_spec.specs.Holds.{within, canBeMet};
+ghost use Rattle.std.specs.Prelude.{◌≡◌};
+ghost use Rattle.table_spec.specs.Limits.{max_buses, max_degree, max_need, max_weight, max_lines, max_entries, max_bytes};
+ghost use Rattle.table_spec.specs.Holds.{within, can_be_met};
 
 pub mod rows;
 pub mod table;
@@ -10,7 +10,7 @@ pub use refusals::Refusal;
 
 // Whether x is from a to b.
 pub fn within(a: usize, b: usize, x: usize) -> bool
-    ensures { λ r. ⌜ r ≡ within a b x ⌝ }
+    ensures { result ≡ within a b x }
 {
     if x < a {
         return false;
@@ -20,7 +20,7 @@ pub fn within(a: usize, b: usize, x: usize) -> bool
 
 // Whether a need can be met at a bus of this degree: it does not exceed the degree; a bus without lines may have need 1.
 pub fn can_be_met(need: usize, degree: usize) -> bool
-    ensures { λ r. ⌜ r ≡ canBeMet need degree ⌝ }
+    ensures { result ≡ can_be_met need degree }
 {
     if need <= degree {
         return true;
@@ -29,12 +29,14 @@ pub fn can_be_met(need: usize, degree: usize) -> bool
 }
 
 // The counts of a network: n and m.
+#[derive(Drop)]
 pub struct Counts {
     pub buses: usize,
     pub lines: usize,
 }
 
 // The limits by name, for callers that cannot cite the constants of `Network`.
+#[derive(Drop)]
 pub struct Limits {
     pub buses: usize,
     pub degree: usize,
@@ -45,6 +47,7 @@ pub struct Limits {
     pub bytes: usize,
 }
 
+#[derive(Drop)]
 pub struct Network;
 
 impl Network {
@@ -70,8 +73,8 @@ impl Network {
     pub const BYTES: usize = 2 + Network::BUSES + 2 + 4 * Network::LINES + 2 + 2 * Network::BUSES;
 
     pub fn limits() -> Limits
-        ensures { λ r. ⌜ (r .buses ≡ maxBuses) × (r .degree ≡ maxDegree) × (r .need ≡ maxNeed) × (r .weight ≡ maxWeight) ⌝ }
-        ensures { λ r. ⌜ (r .lines ≡ maxLines) × (r .entries ≡ maxEntries) × (r .bytes ≡ maxBytes) ⌝ }
+        ensures buses_value { (result.buses ≡ max_buses) × (result.degree ≡ max_degree) × (result.need ≡ max_need) × (result.weight ≡ max_weight) }
+        ensures lines_value { (result.lines ≡ max_lines) × (result.entries ≡ max_entries) × (result.bytes ≡ max_bytes) }
     {
         Limits {
             buses: Network::BUSES,

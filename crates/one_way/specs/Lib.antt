@@ -1,4 +1,3 @@
 -- Networks of one-way lines: which network a table holds, computed examples, then the claim.
 pub mod OneWay
 pub mod Examples
-pub mod OneWaySound

@@ -1,5 +1,5 @@
 -- How large the numbers of the comparison get. Definitions only.
-use Prim.Native.Nat.{ℕ}
+use Rattle.std.specs.Prelude.{ℕ}
 
 -- things that are counted
 abbrev pub counted : ℕ

@@ -2,23 +2,16 @@
 // `small_networks::average` goes through the orders and adds the weights of seen buses, and knows nothing of the scorer. So
 // that the comparison is seen to fail where it should, it is also made of shares by two formulas that are wrong. And each
 // network is seen to be refused once a need of it cannot be met, or a weight is out of range.
-ghost use Prim.Native.Nat.{_≤_, _<_};
-ghost use Rattle·small_networks.specs.SizeBounds.{most};
-ghost use Rattle·order_average·specs.specs.CountBounds.{counted};
+ghost use Rattle.std.specs.Prelude.{◌<◌, ◌≤◌};
+ghost use Rattle.small_networks.specs.SizeBounds.{most};
+ghost use Rattle.order_average.specs.CountBounds.{counted};
+
 use libc::STDOUT_FILENO;
-use scorer::AllShares;
-use scorer::OneShare;
-use small_networks::MOST;
-use small_networks::Small;
-use small_networks::average::Gains;
-use small_networks::average::all_orders;
-use small_networks::choice;
+use scorer::{AllShares, OneShare};
+use small_networks::average::{Gains, all_orders};
 use small_networks::choice::DRAWS;
-use small_networks::has;
-use small_networks::only;
-use small_networks::size;
-use small_networks::table::ENTRIES;
-use small_networks::table::table;
+use small_networks::table::{ENTRIES, table};
+use small_networks::{MOST, Small, choice, has, only, size};
 use std::num::wrapping_add_u64;
 
 // What is counted. Networks; orders gone through, and those whose gains do not add up to the total weight; buses whose need is
@@ -57,14 +50,14 @@ const COUNTED: usize = 14;
 
 // Adds to a count. None comes near the numbers where a sum would wrap.
 fn count(counts: &mut [u64; COUNTED], what: usize, more: u32)
-    requires { ⌜ what < counted ⌝ }
+    requires { what < counted }
 {
     counts[what] = wrapping_add_u64(counts[what], more as u64);
 }
 
 // What a bus of this need and degree is counted as.
 fn kind(need: u32, degree: u32) -> usize
-    ensures { λ r. ⌜ r < counted ⌝ }
+    ensures { result < counted }
 {
     if need > degree {
         ABOVE
@@ -110,7 +103,7 @@ fn weighted(part: u64, weight: u16) -> u64 {
 // A numerator by the first game's formula, 1/(d + 1) for the bus and each neighbour, each times its weight: wrong where needs
 // are not 1.
 fn wrong_numerator(small: Small, bus: usize, over: u64) -> u64
-    requires { ⌜ (small .buses ≤ most) × (bus < most) ⌝ }
+    requires { (small.buses ≤ most) × (bus < most) }
 {
     let neighbours = small.neighbours;
     let weights = small.weights;
@@ -136,7 +129,7 @@ fn compare_bus(
     sum: u32,
     orders: u32,
 )
-    requires { ⌜ (small .buses ≤ most) × (bus < most) ⌝ }
+    requires { (small.buses ≤ most) × (bus < most) }
 {
     let needs = small.needs;
     let neighbours = small.neighbours;
@@ -152,7 +145,7 @@ fn compare_bus(
 // Compares the shares of a network, of which all orders were gone through. Where Shares refuses it, so does Share, and each
 // of its buses counts as different.
 fn compare_shares(counts: &mut [u64; COUNTED], small: Small, gains: Gains)
-    requires { ⌜ small .buses ≤ most ⌝ }
+    requires { small.buses ≤ most }
 {
     let table = table(small);
     let mut numerators = [0u64; MOST];
@@ -178,7 +171,7 @@ fn compare_shares(counts: &mut [u64; COUNTED], small: Small, gains: Gains)
 // Compares the averages with the shares without weights, each times its bus's own weight: wrong where neighbours have other
 // weights, since the term for a neighbour takes the neighbour's.
 fn compare_own_weights(counts: &mut [u64; COUNTED], small: Small, gains: Gains)
-    requires { ⌜ small .buses ≤ most ⌝ }
+    requires { small.buses ≤ most }
 {
     let mut numerators = [0u64; MOST];
     let over = match scorer::shares(&table(choice::unweighted(small)), &mut numerators) {
@@ -197,7 +190,7 @@ fn compare_own_weights(counts: &mut [u64; COUNTED], small: Small, gains: Gains)
 
 // Whether Shares finds no network in the table, number 11.
 fn is_refused(small: Small) -> bool
-    requires { ⌜ small .buses ≤ most ⌝ }
+    requires { small.buses ≤ most }
 {
     let mut numerators = [0u64; MOST];
     match scorer::shares(&table(small), &mut numerators) {
@@ -208,7 +201,7 @@ fn is_refused(small: Small) -> bool
 
 // Raises the need of each bus in turn until it cannot be met.
 fn raise_needs(counts: &mut [u64; COUNTED], small: Small)
-    requires { ⌜ small .buses ≤ most ⌝ }
+    requires { small.buses ≤ most }
 {
     for bus in 0..small.buses {
         count(counts, UNMET, 1);
@@ -220,7 +213,7 @@ fn raise_needs(counts: &mut [u64; COUNTED], small: Small)
 
 // Gives a bus a weight that none may have.
 fn take_out_of_range(counts: &mut [u64; COUNTED], small: Small, bus: usize, weight: u16)
-    requires { ⌜ (small .buses ≤ most) × (bus < most) ⌝ }
+    requires { (small.buses ≤ most) × (bus < most) }
 {
     count(counts, OUT_OF_RANGE, 1);
     if !is_refused(choice::reweighted(small, bus, weight)) {
@@ -230,7 +223,7 @@ fn take_out_of_range(counts: &mut [u64; COUNTED], small: Small, bus: usize, weig
 
 // Gives each bus in turn weight 0, and one above the highest.
 fn change_weights(counts: &mut [u64; COUNTED], small: Small)
-    requires { ⌜ small .buses ≤ most ⌝ }
+    requires { small.buses ≤ most }
 {
     for bus in 0..small.buses {
         take_out_of_range(counts, small, bus, 0);
@@ -239,7 +232,7 @@ fn change_weights(counts: &mut [u64; COUNTED], small: Small)
 }
 
 fn compare(counts: &mut [u64; COUNTED], small: Small)
-    requires { ⌜ small .buses ≤ most ⌝ }
+    requires { small.buses ≤ most }
 {
     let gains = all_orders(small);
     count(counts, NETWORKS, 1);

@@ -1,18 +1,18 @@
 -- How the buses above a bus are found in its row, and how one is left out.
-use mathlib.Core.List.{List, [], _∷_, _++_, append-nil}
-use mathlib.Core.Logic.{⊎-elim}
-use mathlib.Core.Path.{_≡_, sym, ap, _∙_}
-use Prim.Native.Nat.{ℕ, _+_, _≤_, _<_}
+use mathlib.Core.List.{List, [], ◌∷◌, ◌++◌, append-nil}
+use mathlib.Core.Logic.{⊎_elim}
+use mathlib.Core.Path.{◌≡◌, sym, ap, ◌∙◌}
+use Prim.Native.Nat.{ℕ, ◌+◌, ◌≤◌, ◌<◌}
 use native.Mathlib.Omega.{arith}
-use borrow.Author.Tests.{ne-eqb, eq-eqb}
+use borrow.Author.Tests.{ne_eqb, eq-eqb}
 use lib.ListN.{length, set, take, length-append}
-use lib.Seq.{take-all, length-take-le}
-use Rattle·lists.specs.Lists.{without, at, Ascending, WrittenAt}
-use Rattle·lists.specs.Places.{take-next}
-use Rattle·lists.specs.Loops.{last-or}
-use Rattle·lists.specs.Without.{without-append, length-without-le}
-use Rattle·lists.specs.Writes.{length-put, stored-entry}
-use Rattle·outage·specs.specs.StudyWork.{Above}
+use lib.Seq.{take_all, length-take-le}
+use Rattle.lists.specs.Lists.{without, at, Ascending, WrittenAt}
+use Rattle.lists.proofs.Places.{take_next}
+use Rattle.lists.proofs.Loops.{last_or}
+use Rattle.lists.proofs.Without.{without-append, length-without-le}
+use Rattle.lists.proofs.Writes.{length-put, stored_entry}
+use Rattle.outage.specs.StudyWork.{Above}
 
 -- ---- the search: buses before place `low` are not above the bus, and those from place `high` on are
 
@@ -22,8 +22,8 @@ pub record Between (r : List ℕ) (bus low high : ℕ) : Type 0 where
   pub before : (i : ℕ) → i < low → at r i ≤ bus
   pub behind : (i : ℕ) → high ≤ i → i < length r → bus < at r i
 
-pub search-start : (r : List ℕ) (bus : ℕ) {n : ℕ} → n ≡ length r → Between r bus 0 n
-search-start r bus e = record {
+pub search_start : (r : List ℕ) (bus : ℕ) {n : ℕ} → n ≡ length r → Between r bus 0 n
+search_start r bus e = record {
   ordered = omega arith;
   inside = omega arith;
   before = λ i b. absurd (omega arith);
@@ -32,51 +32,51 @@ search-start r bus e = record {
 
 -- x is the bus in the middle
 module _ {r : List ℕ} (up : Ascending r) {bus low high middle x : ℕ} (w : Between r bus low high) (l : low ≤ middle) (m : middle < high) (e : x ≡ at r middle) where
-  pub search-up : x ≤ bus → Between r bus (middle + 1) high
-  search-up h = record {
+  pub search_up : x ≤ bus → Between r bus (middle + 1) high
+  search_up h = record {
     ordered = omega arith;
-    inside = w .inside;
-    before = λ i b. ⊎-elim (λ q. omega (arith, ap (at r) q)) (λ c. omega (arith, up i middle c (omega (arith, w .inside)))) (last-or {i = i} {n = middle} (omega arith));
-    behind = w .behind;
+    inside = w.inside;
+    before = λ i b. ⊎_elim (λ q. omega (arith, ap (at r) q)) (λ c. omega (arith, up i middle c (omega (arith, w.inside)))) (last_or {i = i} {n = middle} (omega arith));
+    behind = w.behind;
   }
 
-  pub search-down : bus < x → Between r bus low middle
-  search-down h = record {
+  pub search_down : bus < x → Between r bus low middle
+  search_down h = record {
     ordered = l;
-    inside = omega (arith, w .inside);
-    before = w .before;
-    behind = λ i b c. ⊎-elim (λ q. omega (arith, ap (at r) q)) (λ d. omega (arith, up middle i d c)) (last-or {i = middle} {n = i} (omega arith));
+    inside = omega (arith, w.inside);
+    before = w.before;
+    behind = λ i b c. ⊎_elim (λ q. omega (arith, ap (at r) q)) (λ d. omega (arith, up middle i d c)) (last_or {i = middle} {n = i} (omega arith));
   }
 
-pub search-end : {r : List ℕ} {bus low high : ℕ} → Between r bus low high → high ≤ low → Above r bus low
-search-end w h = record { inside = omega (arith, w .ordered, w .inside); before = w .before; behind = λ i b c. w .behind i (omega arith) c }
+pub search_end : {r : List ℕ} {bus low high : ℕ} → Between r bus low high → high ≤ low → Above r bus low
+search_end w h = record { inside = omega (arith, w.ordered, w.inside); before = w.before; behind = λ i b c. w.behind i (omega arith) c }
 
 -- ---- leaving one out: of the first k buses of r those that are not `bus` were copied to the front of t, which left u; x is the next
 
 module _ (r : List ℕ) (bus k : ℕ) (t : List ℕ) {many : ℕ} {u : List ℕ} (w : WrittenAt (without (bus ∷ []) (take k r)) 0 t many u) where
-  pub copied-length : k ≤ length r → length r ≤ length t → length u ≡ length t
-  copied-length l h =
-      ap length (w .1)
+  pub copied_length : k ≤ length r → length r ≤ length t → length u ≡ length t
+  copied_length l h =
+      ap length w.1
       ∙ length-put t 0 (without (bus ∷ []) (take k r)) (omega (arith, length-without-le (bus ∷ []) (take k r), length-take-le k r l))
 
   module _ (b : k < length r) where
-    pub many-le : many ≤ k
-    many-le = omega (arith, w .0, length-without-le (bus ∷ []) (take k r), length-take-le k r (omega arith))
+    pub many_le : many ≤ k
+    many_le = omega (arith, w.0, length-without-le (bus ∷ []) (take k r), length-take-le k r (omega arith))
 
     module _ {x : ℕ} (e : x ≡ at r k) where
       more : without (bus ∷ []) (take (k + 1) r) ≡ without (bus ∷ []) (take k r) ++ without (bus ∷ []) (x ∷ [])
-      more = ap (without (bus ∷ [])) (take-next k r b ∙ ap (λ y. take k r ++ (y ∷ [])) (sym e)) ∙ without-append (bus ∷ []) (take k r) (x ∷ [])
+      more = ap (without (bus ∷ [])) (take_next k r b ∙ ap (λ y. take k r ++ (y ∷ [])) (sym e)) ∙ without-append (bus ∷ []) (take k r) (x ∷ [])
 
-      pub copied-next : (x ≡ bus → ⊥) → length r ≤ length t → WrittenAt (without (bus ∷ []) (take (k + 1) r)) 0 t (many + 1) (set u many (at r k))
-      copied-next q h =
-          let next : without (bus ∷ []) (take (k + 1) r) ≡ without (bus ∷ []) (take k r) ++ (x ∷ []) = more ∙ rw (ne-eqb x bus q) in (
-            omega (arith, w .0, ap length next, length-append (without (bus ∷ []) (take k r)) (x ∷ [])),
-            rw (next, ← e) (stored-entry t 0 (without (bus ∷ []) (take k r)) (w .1) (w .0) x (omega (arith, many-le))),
+      pub copied_next : (x ≡ bus → ⊥) → length r ≤ length t → WrittenAt (without (bus ∷ []) (take (k + 1) r)) 0 t (many + 1) (set u many (at r k))
+      copied_next q h =
+          let next : without (bus ∷ []) (take (k + 1) r) ≡ without (bus ∷ []) (take k r) ++ (x ∷ []) = more ∙ rw (ne_eqb x bus q) in (
+            omega (arith, w.0, ap length next, length-append (without (bus ∷ []) (take k r)) (x ∷ [])),
+            rw (next, ← e) (stored_entry t 0 (without (bus ∷ []) (take k r)) w.1 w.0 x (omega (arith, many_le))),
           )
 
-      pub left-out : x ≡ bus → WrittenAt (without (bus ∷ []) (take (k + 1) r)) 0 t many u
-      left-out q = let same : without (bus ∷ []) (take (k + 1) r) ≡ without (bus ∷ []) (take k r) = more ∙ rw (eq-eqb x bus q) (append-nil _) in rw same w
+      pub left_out : x ≡ bus → WrittenAt (without (bus ∷ []) (take (k + 1) r)) 0 t many u
+      left_out q = let same : without (bus ∷ []) (take (k + 1) r) ≡ without (bus ∷ []) (take k r) = more ∙ rw (eq-eqb x bus q) (append-nil _) in rw same w
 
-pub copied-all : (r : List ℕ) (bus k : ℕ) (t : List ℕ) {many : ℕ} {u : List ℕ} → WrittenAt (without (bus ∷ []) (take k r)) 0 t many u → length r ≤ k
+pub copied_all : (r : List ℕ) (bus k : ℕ) (t : List ℕ) {many : ℕ} {u : List ℕ} → WrittenAt (without (bus ∷ []) (take k r)) 0 t many u → length r ≤ k
     → WrittenAt (without (bus ∷ []) r) 0 t many u
-copied-all r bus k t w h = rw (take-all k r h) at w
+copied_all r bus k t w h = rw (take_all k r h) at w

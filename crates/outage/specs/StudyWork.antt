@@ -1,9 +1,7 @@
 -- What the study's functions ask of one another.
 -- Definitions only.
-use mathlib.Core.List.{List}
-use Prim.Native.Nat.{ℕ, _+_, _^_, _≤_, _<_}
-use lib.ListN.{length}
-use Rattle·lists.specs.Lists.{at}
+use Rattle.std.specs.Prelude.{List, ℕ, ◌+◌, ◌^◌, ◌≤◌, ◌<◌, length}
+use Rattle.lists.specs.Lists.{at}
 
 -- in a row the buses above this one begin at place k
 pub record Above (r : List ℕ) (bus k : ℕ) : Type 0 where

@@ -1,44 +1,39 @@
 // The outage study: what the loss of a line does to the numerator of every bus.
-ghost use mathlib.Core.List.{[], _∷_, _++_};
-ghost use mathlib.Core.Path.{_≡_};
-ghost use Prim.Native.Nat.{ℕ, _*_, _^_, _≤_, _<_};
-ghost use lib.ListN.{length, drop};
-ghost use Rattle·lists.specs.Lists.{without, at, Ascending, WrittenAt};
-ghost use Rattle·signed.specs.Signed.{difference, signedBelow};
-ghost use Rattle·table_spec.specs.Limits.{maxWeight};
-ghost use Rattle·table_spec.specs.Layout.{busCount, row, need, weight, lines};
-ghost use Rattle·table_spec.specs.Holds.{Holds};
-ghost use Rattle·table_spec.specs.Lines.{lowerEnd, upperEnd};
-ghost use Rattle·share_spec.specs.TableNetwork.{Over};
-ghost use Rattle·share_spec.specs.TermsGiven.{termsFrom};
-ghost use Rattle·share_terms.specs.Added.{Added};
-ghost use Rattle·share_terms.specs.Unit.{Divided};
-ghost use Rattle·two_way.specs.TwoWay.{networkOf};
-ghost use Rattle·outage_spec.specs.Outage.{withoutLine, changeOver};
-ghost use Rattle·outage_spec.specs.StudyOutcome.{studyOutcome, changesAfter, AllStudied};
-ghost use Rattle·outage·specs.specs.StudyAnswers.{outcomeOfStudy};
-ghost use Rattle·outage·specs.specs.StudyWork.{Above, Room};
+ghost use Rattle.std.specs.Prelude.{[], ◌∷◌, ◌++◌, ◌≡◌, ℕ, ◌*◌, ◌^◌, ◌≤◌, ◌<◌, length, drop};
+ghost use Rattle.lists.specs.Lists.{without, at, Ascending, WrittenAt};
+ghost use Rattle.signed.specs.Signed.{difference, signed_below};
+ghost use Rattle.table_spec.specs.Limits.{max_weight};
+ghost use Rattle.table_spec.specs.Layout.{bus_count, row, need, weight, lines};
+ghost use Rattle.table_spec.specs.Holds.{Holds};
+ghost use Rattle.table_spec.specs.Lines.{lower_end, upper_end};
+ghost use Rattle.share_spec.specs.TableNetwork.{Over};
+ghost use Rattle.share_spec.specs.TermsGiven.{terms_from};
+ghost use Rattle.share_terms.specs.Added.{Added};
+ghost use Rattle.share_terms.specs.Unit.{Divided};
+ghost use Rattle.two_way.specs.TwoWay.{network_of};
+ghost use Rattle.outage_spec.specs.Outage.{without_line, change_over};
+ghost use Rattle.outage_spec.specs.StudyOutcome.{study_outcome, changes_after, AllStudied};
+ghost use Rattle.outage.specs.StudyAnswers.{outcome_of_study};
+ghost use Rattle.outage.specs.StudyWork.{Above, Room};
+
 use network::Network;
 pub use network::Refusal;
 use network::rows::entry;
-use network::table::bus_count;
-use network::table::lines;
-use network::table::need;
-use network::table::neighbours;
-use network::table::weight;
-use share_terms::add_terms;
+use network::table::{bus_count, lines, need, neighbours, weight};
 pub use share_terms::denominator;
-use share_terms::unit;
+use share_terms::{add_terms, unit};
 use signed::less;
 use table_check::holds;
 
 // The number that all changes are over, or why there are none.
+#[derive(Drop)]
 pub enum AllChanges {
     Over(u64),
     Refused(Refusal),
 }
 
 // The two ends of a line.
+#[derive(Drop)]
 struct Ends {
     lower: usize,
     upper: usize,
@@ -46,8 +41,8 @@ struct Ends {
 
 // Where the buses above this one begin in a row. A row ascends, so they are searched by halves.
 fn first_above(row: &[u16], bus: usize) -> usize
-    requires { ⌜ Ascending (now row) ⌝ }
-    ensures { λ r. ⌜ Above (now (row .entry)) bus r ⌝ }
+    requires { Ascending row.now }
+    ensures { Above row.now bus result }
 {
     let mut low = 0;
     let mut high = row.len();
@@ -64,8 +59,8 @@ fn first_above(row: &[u16], bus: usize) -> usize
 
 // The ends of a line. Lines are counted at their lower ends: a bus has as many there as its row has buses above it.
 fn ends_of(table: &[u16], line: usize) -> Ends
-    requires { ⌜ Holds (now table) × (line < lines (now table)) ⌝ }
-    ensures { λ r. ⌜ (r .lower ≡ lowerEnd (now (table .entry)) line) × (r .upper ≡ upperEnd (now (table .entry)) line) ⌝ }
+    requires { Holds table.now × (line < lines table.now) }
+    ensures { (result.lower ≡ lower_end table.now line) × (result.upper ≡ upper_end table.now line) }
 {
     let mut rest = line;
     let mut bus = 0;
@@ -86,8 +81,8 @@ fn ends_of(table: &[u16], line: usize) -> Ends
 
 // Copies a row without one bus, and gives how many are left.
 fn leave_out(row: &[u16], bus: usize, left: &mut [u16]) -> usize
-    requires { ⌜ length (now row) ≤ length (now left) ⌝ }
-    ensures { λ r. ⌜ WrittenAt (without (bus ∷ []) (now (row .entry))) 0 (now (left .entry)) r (now (left .exit)) ⌝ }
+    requires { length row.now ≤ length left.old }
+    ensures { WrittenAt (without (bus ∷ []) row.now) 0 left.old result left.new }
 {
     let mut many = 0;
     let mut k = 0;
@@ -110,12 +105,12 @@ fn add_end(
     before: &mut [u64],
     after: &mut [u64],
 )
-    requires { ⌜ Holds (now table) × (end < busCount (now table)) × Over (now table) over ⌝ }
-    requires { ⌜ Divided (length (without (other ∷ []) (row (now table) end))) over ⌝ }
-    requires { ⌜ Room (maxWeight * over) (now before) × (busCount (now table) ≤ length (now before)) ⌝ }
-    requires { ⌜ Room (maxWeight * over) (now after) × (busCount (now table) ≤ length (now after)) ⌝ }
-    ensures { λ _. ⌜ Added (termsFrom (weight (now (table .entry)) end) (need (now (table .entry)) end) (row (now (table .entry)) end) over end) (now (before .entry)) (now (before .exit)) ⌝ }
-    ensures { λ _. ⌜ Added (termsFrom (weight (now (table .entry)) end) (need (now (table .entry)) end) (without (other ∷ []) (row (now (table .entry)) end)) over end) (now (after .entry)) (now (after .exit)) ⌝ }
+    requires holds { Holds table.now × (end < bus_count table.now) × Over table.now over }
+    requires divided { Divided (length (without (other ∷ []) (row table.now end))) over }
+    requires room { Room (max_weight * over) before.old × (bus_count table.now ≤ length before.old) }
+    requires room_2 { Room (max_weight * over) after.old × (bus_count table.now ≤ length after.old) }
+    ensures added { Added (terms_from (weight table.now end) (need table.now end) (row table.now end) over end) before.old before.new }
+    ensures added_2 { Added (terms_from (weight table.now end) (need table.now end) (without (other ∷ []) (row table.now end)) over end) after.old after.new }
 {
     let row = neighbours(table, end);
     let weight = weight(table, end);
@@ -136,9 +131,9 @@ fn add_end(
 
 // Stores the sum of each of n buses after the loss less its sum before it.
 fn store(before: &[u64], after: &[u64], n: usize, changes: &mut [i64])
-    requires { ⌜ (n ≤ length (now before)) × (n ≤ length (now after)) × (n ≤ length (now changes)) ⌝ }
-    requires { ⌜ ((v : ℕ) → (at (now before) v < 2 ^ 63) × (at (now after) v < 2 ^ 63)) ⌝ }
-    ensures { λ _. ⌜ now (changes .exit) ≡ signedBelow n (λ v. difference (at (now (after .entry)) v) (at (now (before .entry)) v)) ++ drop n (now (changes .entry)) ⌝ }
+    requires n_in_bounds { (n ≤ length before.now) × (n ≤ length after.now) × (n ≤ length changes.old) }
+    requires by_index { (v : ℕ) → (at before.now v < 2 ^ 63) × (at after.now v < 2 ^ 63) }
+    ensures { changes.new ≡ signed_below n (λ v. difference (at after.now v) (at before.now v)) ++ drop n changes.old }
 {
     let mut bus = 0;
     while bus < n {
@@ -151,9 +146,9 @@ fn store(before: &[u64], after: &[u64], n: usize, changes: &mut [i64])
 // Stores the changes of all buses when a line goes out, over any L that makes their terms whole with the line and without it. Of all terms only those of
 // the line's ends move. For callers who study many lines of a network: neither the table nor its L is looked at again.
 pub fn study_over(table: &[u16], line: usize, over: u64, changes: &mut [i64])
-    requires { ⌜ Holds (now table) × (line < lines (now table)) × (busCount (now table) ≤ length (now changes)) ⌝ }
-    requires { ⌜ Over (now table) over × Over (withoutLine (now table) line) over ⌝ }
-    ensures { λ _. ⌜ now (changes .exit) ≡ signedBelow (busCount (now (table .entry))) (changeOver (networkOf (now (table .entry))) (networkOf (withoutLine (now (table .entry)) line)) over) ++ drop (busCount (now (table .entry))) (now (changes .entry)) ⌝ }
+    requires holds { Holds table.now × (line < lines table.now) × (bus_count table.now ≤ length changes.old) }
+    requires over { Over table.now over × Over (without_line table.now line) over }
+    ensures { changes.new ≡ signed_below (bus_count table.now) (change_over (network_of table.now) (network_of (without_line table.now line)) over) ++ drop (bus_count table.now) changes.old }
 {
     let ends = ends_of(table, line);
     let lower = ends.lower;
@@ -167,9 +162,9 @@ pub fn study_over(table: &[u16], line: usize, over: u64, changes: &mut [i64])
 
 // The study of a table that was tested.
 pub fn study(table: &[u16], line: usize, changes: &mut [i64]) -> AllChanges
-    requires { ⌜ Holds (now table) ⌝ }
-    ensures { λ r. ⌜ outcomeOfStudy r ≡ studyOutcome (now (table .entry)) line (length (now (changes .entry))) ⌝ }
-    ensures { λ _. ⌜ now (changes .exit) ≡ changesAfter (now (table .entry)) line (now (changes .entry)) ⌝ }
+    requires { Holds table.now }
+    ensures result_value { outcome_of_study result ≡ study_outcome table.now line (length changes.old) }
+    ensures changes_after { changes.new ≡ changes_after table.now line changes.old }
 {
     if lines(table) <= line {
         return AllChanges::Refused(Refusal::NoSuchLine);
@@ -184,9 +179,9 @@ pub fn study(table: &[u16], line: usize, changes: &mut [i64]) -> AllChanges
 
 // The changes of all buses when a line goes out: they are stored, and what they are over is given.
 pub fn changes(table: &[u16], line: usize, changes: &mut [i64]) -> AllChanges
-    ensures answer { λ r. ⌜ outcomeOfStudy r ≡ studyOutcome (now (table .entry)) line (length (now (changes .entry))) ⌝ }
-    ensures stored { λ _. ⌜ now (changes .exit) ≡ changesAfter (now (table .entry)) line (now (changes .entry)) ⌝ }
-    ensures fair { λ r. ⌜ AllStudied (now (table .entry)) line (length (now (changes .entry))) (outcomeOfStudy r) (now (changes .exit)) ⌝ }
+    ensures answer { outcome_of_study result ≡ study_outcome table.now line (length changes.old) }
+    ensures stored { changes.new ≡ changes_after table.now line changes.old }
+    ensures fair { AllStudied table.now line (length changes.old) (outcome_of_study result) changes.new }
 {
     if !holds(table) {
         return AllChanges::Refused(Refusal::NoNetwork);

@@ -2,8 +2,4 @@
 pub mod OutageReport
 pub mod Examples
 pub mod ChangeRoom
-pub mod ChangeFits
 pub mod ChangeWriting
-pub mod StoredChanges
-pub mod Printing
-pub mod PrintedFront

@@ -1,28 +1,24 @@
 -- Networks without a line, and changes, computed.
-use mathlib.Core.List.{List, [], _∷_, map}
-use mathlib.Core.Path.{_≡_, refl}
-use Prim.Native.Nat.{ℕ}
-use lib.IntN.{ℤ, pos, negsuc}
-use lib.ListN.{length}
-use Rattle·lists.specs.Lists.{at}
-use Rattle·lists.specs.Below.{sumBelow, allBelow, largestBelow, joinBelow, mapBelow, listBelow}
-use Rattle·signed.specs.Signed.{difference, signedBelow}
-use Rattle·refusals.specs.Outcomes.{Outcome, gives, refuses}
-use Rattle·fraction.specs.Divisors.{gcdOf, lcmOf, lcmAll}
-use Rattle·game.specs.Game.{ownTerm, neighbourTerm}
-use Rattle·table_spec.specs.Layout.{rowAt, laid, needs, weights, starts, neighbourNumbers, row, lines, tableOf}
-use Rattle·table_spec.specs.Holds.{within, complete, inRange, neverFall, shortRows, validEntry, validRow, validRows, soundRows, mirrored, twoWay, holds}
-use Rattle·table_spec.specs.Lines.{pairs}
-use Rattle·table_spec.specs.Examples.{path, weighted, square}
-use Rattle·share_spec.specs.TableNetwork.{largestDegree, divisorsOf}
-use Rattle·share_spec.specs.Formula.{numeratorOver}
-use Rattle·outage_spec·specs.specs.Outage.{withoutPair, withoutLine, changeOver}
-use Rattle·outage_spec·specs.specs.StudyOutcome.{studyOutcome, storedChanges, changesAfter}
+use Rattle.std.specs.Prelude.{List, [], ◌∷◌, map, ◌≡◌, refl, ℕ, ℤ, pos, negsuc, length}
+use Rattle.lists.specs.Lists.{at}
+use Rattle.lists.specs.Below.{sum_below, all_below, largest_below, join_below, map_below, list_below}
+use Rattle.signed.specs.Signed.{difference, signed_below}
+use Rattle.refusals.specs.Outcomes.{Outcome, gives, refuses}
+use Rattle.fraction.specs.Divisors.{gcd_of, lcm_of, lcm_all}
+use Rattle.game.specs.Game.{own_term, neighbour_term}
+use Rattle.table_spec.specs.Layout.{row_at, laid, needs, weights, starts, neighbour_numbers, row, lines, table_of}
+use Rattle.table_spec.specs.Holds.{within, complete, in_range, never_fall, short_rows, valid_entry, valid_row, valid_rows, sound_rows, mirrored, two_way, holds}
+use Rattle.table_spec.specs.Lines.{pairs}
+use Rattle.table_spec.specs.Examples.{path, weighted, square}
+use Rattle.share_spec.specs.TableNetwork.{largest_degree, divisors_of}
+use Rattle.share_spec.specs.Formula.{numerator_over}
+use Rattle.outage_spec.specs.Outage.{without_pair, without_line, change_over}
+use Rattle.outage_spec.specs.StudyOutcome.{study_outcome, stored_changes, changes_after}
 
 -- without line 3, from bus 1 to bus 3, bus 1 of the square has need 3 and degree 2
-taken-out : withoutLine square 3 ≡ 4 ∷ 1 ∷ 3 ∷ 1 ∷ 2 ∷ 1 ∷ 1 ∷ 1 ∷ 1 ∷ 0 ∷ 2 ∷ 4 ∷ 6 ∷ 8 ∷ 1 ∷ 3 ∷ 0 ∷ 2 ∷ 1 ∷ 3 ∷ 0 ∷ 2 ∷ []
-unfolding square withoutPair tableOf laid pairs listBelow row rowAt needs weights starts neighbourNumbers at joinBelow mapBelow
-taken-out = refl
+taken_out_lem : without_line square 3 ≡ 4 ∷ 1 ∷ 3 ∷ 1 ∷ 2 ∷ 1 ∷ 1 ∷ 1 ∷ 1 ∷ 0 ∷ 2 ∷ 4 ∷ 6 ∷ 8 ∷ 1 ∷ 3 ∷ 0 ∷ 2 ∷ 1 ∷ 3 ∷ 0 ∷ 2 ∷ []
+unfolding square without_pair table_of laid pairs list_below row row_at needs weights starts neighbour_numbers at join_below map_below
+taken_out_lem = refl
 
 -- a table, a line, entries lent, the answer, and the entries after it
 record Case : Type 0 where
@@ -51,6 +47,6 @@ cases =
     ∷ case (path 3) 2 (pos 9 ∷ pos 9 ∷ []) (refuses 11) (pos 9 ∷ pos 9 ∷ [])
     ∷ []
 
-all-studies : map (λ c. let x = c .lent in case (c .table) (c .line) x (studyOutcome (c .table) (c .line) (length x)) (changesAfter (c .table) (c .line) x)) cases ≡ cases
-unfolding cases storedChanges signedBelow changeOver difference withoutPair tableOf laid pairs listBelow numeratorOver ownTerm neighbourTerm divisorsOf largestDegree largestBelow lcmAll lcmOf gcdOf mapBelow joinBelow holds twoWay complete within inRange soundRows neverFall shortRows validRows validRow validEntry mirrored rowAt needs weights starts neighbourNumbers row at allBelow lines sumBelow
-all-studies = refl
+all_studies : map (λ c. let x = c.lent in case c.table c.line x (study_outcome c.table c.line (length x)) (changes_after c.table c.line x)) cases ≡ cases
+unfolding cases stored_changes signed_below change_over difference without_pair table_of laid pairs list_below numerator_over own_term neighbour_term divisors_of largest_degree largest_below lcm_all lcm_of gcd_of map_below join_below holds two_way complete within in_range sound_rows never_fall short_rows valid_rows valid_row valid_entry mirrored row_at needs weights starts neighbour_numbers row at all_below lines sum_below
+all_studies = refl

@@ -2,8 +2,5 @@
 pub mod Outage
 pub mod StudyOutcome
 pub mod Examples
-pub mod WeakenedTable
 pub mod EndTerms
-pub mod ChangeClaims
 pub mod StudyDue
-pub mod BeyondStudy

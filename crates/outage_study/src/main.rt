@@ -1,12 +1,7 @@
 // The outage program: a two-byte line number and a network file on standard input, the changes of all buses when that line goes out on standard output.
 use network::Network;
-use outage_report::LONGEST_CHANGES;
-use outage_report::report;
-use standard_io::Input;
-use standard_io::fail_reading;
-use standard_io::print;
-use standard_io::read_input;
-use standard_io::warn;
+use outage_report::{LONGEST_CHANGES, report};
+use standard_io::{Input, fail_reading, print, read_input, warn};
 
 // The file behind the line number, or all of an input that is too short for one.
 fn file_of(input: &[u8]) -> &[u8] {

@@ -3,6 +3,4 @@ pub mod ReadOutcome
 pub mod ReadStages
 pub mod ReadExamples
 pub mod ReadDecides
-pub mod Recorded
 pub mod ReadFront
-pub mod ReadRoom

@@ -1,44 +1,32 @@
 // Read: a network file into a lent line table.
-ghost use mathlib.Core.List.{_∷_};
-ghost use mathlib.Core.Path.{_≡_};
-ghost use Prim.Native.Nat.{_+_, _*_, _≤_, _<_};
-ghost use lib.ListN.{length};
-ghost use Rattle·lists.specs.Lists.{put};
-ghost use Rattle·lists.specs.Below.{mapBelow};
-ghost use Rattle·table_spec.specs.Limits.{maxBuses, maxLines};
-ghost use Rattle·table_spec.specs.Layout.{tableEntries};
-ghost use Rattle·file_spec.specs.FileBytes.{weightIn};
-ghost use Rattle·file_spec.specs.SoundSections.{CompleteWeights};
-ghost use Rattle·file_spec.specs.Records.{pairCount};
-ghost use Rattle·file_spec.specs.OrderedRecords.{OrderedRecords};
-ghost use Rattle·file_sections.specs.FileAnswers.{outcomeOfReading};
-ghost use Rattle·file_records.specs.RecordSteps.{NeighbourCounts};
-ghost use Rattle·read_spec.specs.ReadOutcome.{readOutcome, tableAfter, Recorded};
-ghost use Rattle·read_spec.specs.ReadStages.{recordsTable, LinesDue, RecordsDue};
-use file_records::count_neighbours;
-use file_records::store_rows;
-pub use file_sections::Counts;
-pub use file_sections::Reading;
-use file_sections::judge;
-use file_sections::need_bytes;
-use file_sections::out_of_order;
-use file_sections::records;
-use file_sections::sound_ends;
-use file_sections::weight_bytes;
-use file_sections::weight_in;
+ghost use Rattle.std.specs.Prelude.{◌∷◌, ◌≡◌, ◌+◌, ◌*◌, ◌≤◌, ◌<◌, length};
+ghost use Rattle.lists.specs.Lists.{put};
+ghost use Rattle.lists.specs.Below.{map_below};
+ghost use Rattle.table_spec.specs.Limits.{max_buses, max_lines};
+ghost use Rattle.table_spec.specs.Layout.{table_entries};
+ghost use Rattle.file_spec.specs.FileBytes.{weight_in};
+ghost use Rattle.file_spec.specs.SoundSections.{CompleteWeights};
+ghost use Rattle.file_spec.specs.Records.{pair_count};
+ghost use Rattle.file_spec.specs.OrderedRecords.{OrderedRecords};
+ghost use Rattle.file_sections.specs.FileAnswers.{outcome_of_reading};
+ghost use Rattle.file_records.specs.RecordSteps.{NeighbourCounts};
+ghost use Rattle.read_spec.specs.ReadOutcome.{read_outcome, table_after, Recorded};
+ghost use Rattle.read_spec.specs.ReadStages.{records_table, LinesDue, RecordsDue};
+
+use file_records::{count_neighbours, store_rows};
+pub use file_sections::{Counts, Reading};
+use file_sections::{
+    judge, need_bytes, out_of_order, records, sound_ends, weight_bytes, weight_in,
+};
 use network::Network;
 pub use network::Refusal;
-use network::table::entries;
-use network::table::starts_from;
-use network::table::weights_from;
-use row_builder::degree_too_high;
-use row_builder::needs_can_be_met;
-use row_builder::zero_counts;
+use network::table::{entries, starts_from, weights_from};
+use row_builder::{degree_too_high, needs_can_be_met, zero_counts};
 
 // Writes the bus count and the needs.
 fn store_needs(needs: &[u8], table: &mut [u16])
-    requires { ⌜ (length (now needs) ≤ maxBuses) × (1 + length (now needs) ≤ length (now table)) ⌝ }
-    ensures { λ _. ⌜ now (table .exit) ≡ put (now (table .entry)) 0 (length (now (needs .entry)) ∷ now (needs .entry)) ⌝ }
+    requires { (length needs.now ≤ max_buses) × (1 + length needs.now ≤ length table.old) }
+    ensures { table.new ≡ put table.old 0 (length needs.now ∷ needs.now) }
 {
     table[0] = needs.len() as u16;
     let mut bus = 0;
@@ -50,8 +38,8 @@ fn store_needs(needs: &[u8], table: &mut [u16])
 
 // Writes the weights that the bytes of a section give n buses into the table from place `from` on.
 fn store_weights(section: &[u8], n: usize, table: &mut [u16], from: usize)
-    requires { ⌜ CompleteWeights n (now section) × (from + n ≤ length (now table)) ⌝ }
-    ensures { λ _. ⌜ now (table .exit) ≡ put (now (table .entry)) from (mapBelow n (weightIn (now (section .entry)))) ⌝ }
+    requires { CompleteWeights n section.now × (from + n ≤ length table.old) }
+    ensures { table.new ≡ put table.old from (map_below n (weight_in section.now)) }
 {
     let mut bus = 0;
     while bus < n {
@@ -69,9 +57,9 @@ fn store_table(
     counts: &mut [u16; Network::BUSES],
     table: &mut [u16],
 )
-    requires { ⌜ (4 * m ≤ length (now section)) × OrderedRecords (length (now needs)) m (now section) × NeighbourCounts (length (now needs)) m (now section) (now counts) ⌝ }
-    requires { ⌜ CompleteWeights (length (now needs)) (now weights) × (tableEntries (length (now needs)) (pairCount m (now section)) ≤ length (now table)) ⌝ }
-    ensures { λ _. ⌜ now (table .exit) ≡ put (now (table .entry)) 0 (recordsTable (now (needs .entry)) (now (weights .entry)) m (now (section .entry))) ⌝ }
+    requires m_in_bounds { (4 * m ≤ length section.now) × OrderedRecords (length needs.now) m section.now × NeighbourCounts (length needs.now) m section.now counts.old }
+    requires complete_weights { CompleteWeights (length needs.now) weights.now × (table_entries (length needs.now) (pair_count m section.now) ≤ length table.old) }
+    ensures { table.new ≡ put table.old 0 (records_table needs.now weights.now m section.now) }
 {
     let n = needs.len();
     store_needs(needs, table);
@@ -81,8 +69,8 @@ fn store_table(
 
 // Reads m records that are sound and in order, of buses with these needs and weights.
 fn read_lines(needs: &[u8], weights: &[u8], section: &[u8], m: usize, table: &mut [u16]) -> Reading
-    requires { ⌜ CompleteWeights (length (now needs)) (now weights) × (4 * m ≤ length (now section)) × OrderedRecords (length (now needs)) m (now section) ⌝ }
-    ensures { λ r. ⌜ LinesDue (now (needs .entry)) (now (weights .entry)) m (now (section .entry)) (now (table .entry)) (outcomeOfReading r) (now (table .exit)) ⌝ }
+    requires { CompleteWeights (length needs.now) weights.now × (4 * m ≤ length section.now) × OrderedRecords (length needs.now) m section.now }
+    ensures { LinesDue needs.now weights.now m section.now table.old (outcome_of_reading result) table.new }
 {
     let n = needs.len();
     let mut counts = zero_counts();
@@ -108,8 +96,8 @@ fn read_records(
     m: usize,
     table: &mut [u16],
 ) -> Reading
-    requires { ⌜ (length (now needs) ≤ maxBuses) × CompleteWeights (length (now needs)) (now weights) × (m ≤ maxLines) × (4 * m ≤ length (now section)) ⌝ }
-    ensures { λ r. ⌜ RecordsDue (now (needs .entry)) (now (weights .entry)) m (now (section .entry)) (now (table .entry)) (outcomeOfReading r) (now (table .exit)) ⌝ }
+    requires { (length needs.now ≤ max_buses) × CompleteWeights (length needs.now) weights.now × (m ≤ max_lines) × (4 * m ≤ length section.now) }
+    ensures { RecordsDue needs.now weights.now m section.now table.old (outcome_of_reading result) table.new }
 {
     if !sound_ends(section, needs.len(), m) {
         return Reading::Refused(Refusal::LineEnds);
@@ -122,9 +110,9 @@ fn read_records(
 
 // Reads a file into a lent slice.
 pub fn read(file: &[u8], table: &mut [u16]) -> Reading
-    ensures answer { λ r. ⌜ outcomeOfReading r ≡ readOutcome (now (file .entry)) (length (now (table .entry))) ⌝ }
-    ensures stored { λ _. ⌜ now (table .exit) ≡ tableAfter (now (file .entry)) (now (table .entry)) ⌝ }
-    ensures recorded { λ r. ⌜ Recorded (now (file .entry)) (now (table .entry)) (outcomeOfReading r) (now (table .exit)) ⌝ }
+    ensures answer { outcome_of_reading result ≡ read_outcome file.now (length table.old) }
+    ensures stored { table.new ≡ table_after file.now table.old }
+    ensures recorded { Recorded file.now table.old (outcome_of_reading result) table.new }
 {
     match judge(file) {
         Reading::Refused(cause) => Reading::Refused(cause),

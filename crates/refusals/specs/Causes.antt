@@ -1,116 +1,21 @@
 -- Laws of the first cause.
-use mathlib.Core.Bool.{Bool, true, false, cond, _||_, true≢false}
-use mathlib.Core.List.{List, [], _∷_, _++_}
-use mathlib.Core.Path.{_≡_, refl, sym, ap, _∙_}
-use Prim.Native.Nat.{ℕ}
-use borrow.Author.Tests.{eq-eqb}
-use lib.Dec.{eqb}
-use Rattle·refusals·specs.specs.Numbers.{numberOf}
-use Rattle·refusals·specs.specs.Outcomes.{Outcome, gives, refuses, Cause, outcome, valuesOr}
-
-abbrev given : {A : Type 0} → Outcome A → Bool
-given (gives values) = true
-given (refuses number) = false
-
-abbrev number : {A : Type 0} → Outcome A → ℕ
-number (gives values) = 0
-number (refuses k) = k
-
--- no call does both
-not-both : {A : Type 0} {w : A} {k : ℕ} → gives w ≡ refuses k → ⊥
-not-both e = true≢false (ap given e)
+use Rattle.std.specs.Prelude.{Bool, false, cond, ◌||◌, List, [], ◌∷◌, ◌≡◌, ℕ, eqb}
+use Rattle.refusals.specs.Numbers.{number_of}
+use Rattle.refusals.specs.Outcomes.{Outcome, gives, refuses, Cause}
 
 -- no cause of a list holds
 abbrev pub NoneHolds : List Cause → Type 0
 NoneHolds [] = Unit {0}
-NoneHolds (c ∷ cs) = (c .test ≡ false) × NoneHolds cs
-
--- where values are given no cause holds, and they are the call's
-pub no-cause : {A : Type 0} (cs : List Cause) (values : A) {w : A} → outcome cs values ≡ gives w → NoneHolds cs × (w ≡ values)
-no-cause [] values {w} e = (tt, sym (ap (valuesOr w) e))
-no-cause (c ∷ cs) values {w} e = go (c .test) (no-cause cs values) e
-  where
-    go : (t : Bool) → (outcome cs values ≡ gives w → NoneHolds cs × (w ≡ values))
-        → cond t (refuses (numberOf (c .refusal))) (outcome cs values) ≡ gives w → ((t ≡ false) × NoneHolds cs) × (w ≡ values)
-    go true h q = absurd (not-both (sym q))
-    go false h q = let z = h q in ((refl, z .0), z .1)
-
--- and where no cause holds they are given
-pub none-gives : {A : Type 0} (cs : List Cause) (values : A) → NoneHolds cs → outcome cs values ≡ gives values
-none-gives [] values h = refl
-none-gives (c ∷ cs) values h = rw (h .0) (none-gives cs values (h .1))
+NoneHolds (c ∷ cs) = (c.test ≡ false) × NoneHolds cs
 
 -- a cause of number k holds, wherever it stands in the list
 abbrev pub numbered : ℕ → List Cause → Bool
 numbered k [] = false
-numbered k (c ∷ cs) = cond (eqb (numberOf (c .refusal)) k) (c .test || numbered k cs) (numbered k cs)
-
-pub none-numbered : (k : ℕ) (cs : List Cause) → NoneHolds cs → numbered k cs ≡ false
-none-numbered k [] h = refl
-none-numbered k (c ∷ cs) h = go (eqb (numberOf (c .refusal)) k) (none-numbered k cs (h .1))
-  where
-    go : (b : Bool) → numbered k cs ≡ false → cond b (c .test || numbered k cs) (numbered k cs) ≡ false
-    go true e = rw (h .0) e
-    go false e = e
-
--- a call that is refused with a number has a cause of that number
-pub refused-numbered : {A : Type 0} (k : ℕ) (cs : List Cause) (values : A) → outcome cs values ≡ refuses k → numbered k cs ≡ true
-refused-numbered k [] values e = absurd (not-both e)
-refused-numbered k (c ∷ cs) values e = go (c .test) (refused-numbered k cs values) e
-  where
-    either : (b : Bool) {x : Bool} → x ≡ true → cond b x x ≡ true
-    either true e = e
-    either false e = e
-
-    go : (t : Bool) → (outcome cs values ≡ refuses k → numbered k cs ≡ true) → cond t (refuses (numberOf (c .refusal))) (outcome cs values) ≡ refuses k
-        → cond (eqb (numberOf (c .refusal)) k) (t || numbered k cs) (numbered k cs) ≡ true
-    go true h q = rw (eq-eqb (numberOf (c .refusal)) k (ap number q))
-    go false h q = either (eqb (numberOf (c .refusal)) k) (h q)
-
--- ---- two lists of causes, one behind the other
-
-pub none-both : (cs ds : List Cause) → NoneHolds (cs ++ ds) → NoneHolds cs × NoneHolds ds
-none-both [] ds h = (tt, h)
-none-both (c ∷ cs) ds h = let z = none-both cs ds (h .1) in ((h .0, z .0), z .1)
-
-module _ {A B : Type 0} where
-  -- what the first gives is left to the second to decide
-  abbrev orElse : Outcome A → Outcome B → Outcome B
-  orElse (gives values) o = o
-  orElse (refuses number) o = refuses number
-
-  or-under : (t : Bool) (k : ℕ) (x : Outcome A) (y : Outcome B) → cond t (refuses k) (orElse x y) ≡ orElse (cond t (refuses k) x) y
-  or-under true k x y = refl
-  or-under false k x y = refl
-
-  module _ (ds : List Cause) (u : A) (v : B) where
-    joined : (cs : List Cause) → outcome (cs ++ ds) v ≡ orElse (outcome cs u) (outcome ds v)
-    joined [] = refl
-    joined (c ∷ cs) =
-        ap (cond (c .test) (refuses (numberOf (c .refusal)))) (joined cs)
-        ∙ or-under (c .test) (numberOf (c .refusal)) (outcome cs u) (outcome ds v)
-
-    -- where the first refuses, the two do
-    pub first-refuses : (cs : List Cause) {k : ℕ} → outcome cs u ≡ refuses k → outcome (cs ++ ds) v ≡ refuses k
-    first-refuses cs e = joined cs ∙ ap (λ (x : Outcome A). orElse x (outcome ds v)) e
-
-    -- where it gives values, the second decides
-    pub then-decides : (cs : List Cause) {w : A} → outcome cs u ≡ gives w → outcome (cs ++ ds) v ≡ outcome ds v
-    then-decides cs e = joined cs ∙ ap (λ (x : Outcome A). orElse x (outcome ds v)) e
+numbered k (c ∷ cs) = cond (eqb (number_of c.refusal) k) (c.test || numbered k cs) (numbered k cs)
 
 -- ---- a call that gives a part of another's values, and is refused as that one is
 
 module _ {A C : Type 0} (part : A → C) where
-  abbrev pub partOf : Outcome A → Outcome C
-  partOf (gives values) = gives (part values)
-  partOf (refuses number) = refuses number
-
-  part-under : (t : Bool) (k : ℕ) (o : Outcome A) → partOf (cond t (refuses k) o) ≡ cond t (refuses k) (partOf o)
-  part-under true k o = refl
-  part-under false k o = refl
-
-  pub part-answered : (cs : List Cause) (values : A) {o : Outcome A} → o ≡ outcome cs values → partOf o ≡ outcome cs (part values)
-  part-answered [] values e = ap partOf e
-  part-answered (c ∷ cs) values e =
-      let k = numberOf (c .refusal) in
-      ap partOf e ∙ part-under (c .test) k (outcome cs values) ∙ ap (cond (c .test) (refuses k)) (part-answered cs values refl)
+  abbrev pub part_of : Outcome A → Outcome C
+  part_of (gives values) = gives (part values)
+  part_of (refuses number) = refuses number

@@ -1,70 +1,12 @@
 -- How a call's causes decide, one after another: what is answered, and what lent entries hold after it.
-use mathlib.Core.Bool.{Bool, true, false}
-use mathlib.Core.List.{List, [], _∷_, _++_}
-use mathlib.Core.Path.{_≡_, refl, sym, ap, _∙_}
-use Prim.Native.Nat.{ℕ, _≤_, _<_}
-use native.Mathlib.Omega.{arith}
-use borrow.Author.Tests.{le-ltb, lt-ltb}
-use lib.Dec.{ltb}
-use Rattle·refusals·specs.specs.declared.Refusal.{Refusal}
-use Rattle·refusals·specs.specs.Numbers.{numberOf}
-use Rattle·refusals·specs.specs.Outcomes.{Outcome, gives, refuses, Cause, _⇒_, outcome, valuesOr}
-use Rattle·refusals·specs.specs.Causes.{first-refuses, then-decides}
+use Rattle.std.specs.Prelude.{List, ◌≡◌}
+use Rattle.refusals.specs.Outcomes.{Outcome, Cause, outcome, values_or}
 
 -- where these causes decide, a call that gives these values and stores s is due this answer, and entries that held x hold y after it
 pub record Due {A B : Type 0} (cs : List Cause) (values : A) (s x : B) (answer : Outcome A) (y : B) : Type 0 where
   pub answered : answer ≡ outcome cs values
-  pub after : y ≡ valuesOr x (outcome cs s)
+  pub after : y ≡ values_or x (outcome cs s)
 
 -- the same of a call that stores nothing
 abbrev pub Answered : {A : Type 0} → List Cause → A → Outcome A → Type 0
 Answered cs values answer = Due {B = Unit {0}} cs values tt tt answer tt
-
--- ---- as contracts say it
-
-pub both : {A B : Type 0} {cs : List Cause} {values : A} {s x : B} {o : Outcome A} {y : B} → Due cs values s x o y
-    → (o ≡ outcome cs values) × (y ≡ valuesOr x (outcome cs s))
-both d = (d .answered, d .after)
-
-module _ {A : Type 0} (cs : List Cause) (values : A) {o : Outcome A} where
-  pub answer : Answered cs values o → o ≡ outcome cs values
-  answer d = d .answered
-
-  pub due : o ≡ outcome cs values → Answered cs values o
-  due e = record { answered = e; after = refl }
-
--- ---- one cause after another
-
-module _ {A B : Type 0} {values : A} {s x : B} where
-  -- no cause is left
-  pub accept : {v : A} {y : B} → v ≡ values → y ≡ s → Due [] values s x (gives v) y
-  accept e f = record { answered = ap gives e; after = f }
-
-  -- a cause that holds refuses, and the entries are kept; one that does not is passed over
-  module _ {t : Bool} {r : Refusal} {cs : List Cause} where
-    pub stop : t ≡ true → Due ((t ⇒ r) ∷ cs) values s x (refuses (numberOf r)) x
-    stop e = record { answered = rw e; after = rw e }
-
-    pub pass : {o : Outcome A} {y : B} → t ≡ false → Due cs values s x o y → Due ((t ⇒ r) ∷ cs) values s x o y
-    pass e d = record { answered = rw e (d .answered); after = rw e (d .after) }
-
-  -- a cause that tests whether a number is below another; code read them into m and n
-  module _ {r : Refusal} {cs : List Cause} {a b m n : ℕ} (e : m ≡ a) (f : n ≡ b) where
-    pub below : m < n → Due ((ltb a b ⇒ r) ∷ cs) values s x (refuses (numberOf r)) x
-    below h = stop (lt-ltb a b (omega arith))
-
-    pub not-below : {o : Outcome A} {y : B} → n ≤ m → Due cs values s x o y → Due ((ltb a b ⇒ r) ∷ cs) values s x o y
-    not-below h d = pass (le-ltb a b (omega arith)) d
-
-  -- the causes of a stage, then others: what the stage refuses is refused; where it gives a value, the others decide
-  module _ {C : Type 0} (cs : List Cause) (u : C) where
-    pub stage-stop : (ds : List Cause) {k : ℕ} → refuses k ≡ outcome cs u → Due (cs ++ ds) values s x (refuses k) x
-    stage-stop ds e =
-        record { answered = sym (first-refuses ds u values cs (sym e)); after = sym (ap (valuesOr x) (first-refuses ds u s cs (sym e))) }
-
-    pub stage-pass : {ds : List Cause} {w : C} {o : Outcome A} {y : B} → gives w ≡ outcome cs u → Due ds values s x o y → Due (cs ++ ds) values s x o y
-    stage-pass {ds} e d =
-        record {
-          answered = d .answered ∙ sym (then-decides ds u values cs (sym e));
-          after = d .after ∙ sym (ap (valuesOr x) (then-decides ds u s cs (sym e)));
-        }

@@ -1,21 +1,18 @@
 -- The first cause decides, and what answers stand for, computed.
-use mathlib.Core.Bool.{true, false}
-use mathlib.Core.List.{[], _∷_}
-use mathlib.Core.Path.{_≡_, refl}
-use Prim.Native.Nat.{ℕ}
-use Rattle·refusals·specs.specs.declared.Refusal.the-variants.{NoNetwork, NoSuchBus, TextTooShort}
-use Rattle·refusals·specs.specs.declared.Written.the-variants.{Bytes, Refused}
-use Rattle·refusals·specs.specs.Outcomes.{gives, refuses, _⇒_, outcome}
-use Rattle·refusals·specs.specs.WrittenAnswer.{outcomeOfWritten}
+use Rattle.std.specs.Prelude.{true, false, [], ◌∷◌, ◌≡◌, refl, ℕ}
+use Rattle.refusals.specs.declared.Refusal.TheVariants.{NoNetwork, NoSuchBus, TextTooShort}
+use Rattle.refusals.specs.declared.Written.TheVariants.{Bytes, Refused}
+use Rattle.refusals.specs.Outcomes.{gives, refuses, ◌⇒◌, outcome}
+use Rattle.refusals.specs.WrittenAnswer.{outcome_of_written}
 
 none-holds : outcome {A = ℕ} ((false ⇒ NoNetwork) ∷ (false ⇒ NoSuchBus) ∷ []) 7 ≡ gives 7
 none-holds = refl
 
-first-of-two : outcome {A = ℕ} ((false ⇒ NoNetwork) ∷ (true ⇒ NoSuchBus) ∷ (true ⇒ TextTooShort) ∷ []) 7 ≡ refuses 13
-first-of-two = refl
+first_of_two : outcome {A = ℕ} ((false ⇒ NoNetwork) ∷ (true ⇒ NoSuchBus) ∷ (true ⇒ TextTooShort) ∷ []) 7 ≡ refuses 13
+first_of_two = refl
 
-earlier-wins : outcome {A = ℕ} ((true ⇒ NoNetwork) ∷ (true ⇒ NoSuchBus) ∷ []) 7 ≡ refuses 11
-earlier-wins = refl
+earlier_wins : outcome {A = ℕ} ((true ⇒ NoNetwork) ∷ (true ⇒ NoSuchBus) ∷ []) 7 ≡ refuses 11
+earlier_wins = refl
 
-bytes-written : (outcomeOfWritten (Bytes 7) ≡ gives 7) × (outcomeOfWritten (Refused TextTooShort) ≡ refuses 14)
-bytes-written = (refl, refl)
+bytes_written : (outcome_of_written (Bytes 7) ≡ gives 7) × (outcome_of_written (Refused TextTooShort) ≡ refuses 14)
+bytes_written = (refl, refl)

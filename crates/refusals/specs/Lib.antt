@@ -5,4 +5,3 @@ pub mod WrittenAnswer
 pub mod Examples
 pub mod Causes
 pub mod Due
-pub mod NumberLaws

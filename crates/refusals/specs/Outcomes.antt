@@ -1,10 +1,8 @@
 -- What a call gives: its values, or the number of the first cause that holds, in the order in which the scope lists a call's causes.
 -- Definitions only.
-use mathlib.Core.Bool.{Bool, cond}
-use mathlib.Core.List.{List, [], _∷_}
-use Prim.Native.Nat.{ℕ}
-use Rattle·refusals·specs.specs.declared.Refusal.{Refusal}
-use Rattle·refusals·specs.specs.Numbers.{numberOf}
+use Rattle.std.specs.Prelude.{Bool, cond, List, [], ◌∷◌, ℕ}
+use Rattle.refusals.specs.declared.Refusal.{Refusal}
+use Rattle.refusals.specs.Numbers.{number_of}
 
 -- the values of a call, or a refusal's number alone
 pub data Outcome (A : Type 0) : Type 0 where
@@ -16,17 +14,17 @@ pub record Cause : Type 0 where
   pub test : Bool
   pub refusal : Refusal
 
-infix 45 _⇒_
-abbrev pub _⇒_ : Bool → Refusal → Cause
+infix 45 ◌⇒◌
+abbrev pub ◌⇒◌ : Bool → Refusal → Cause
 b ⇒ r = record { test = b; refusal = r }
 
 module _ {A : Type 0} where
   -- the first cause that holds refuses; if none does, the call gives its values
   abbrev pub outcome : List Cause → A → Outcome A
   outcome [] values = gives values
-  outcome (c ∷ cs) values = cond (c .test) (refuses (numberOf (c .refusal))) (outcome cs values)
+  outcome (c ∷ cs) values = cond c.test (refuses (number_of c.refusal)) (outcome cs values)
 
   -- the values, or what stands in for them where the call is refused
-  abbrev pub valuesOr : A → Outcome A → A
-  valuesOr other (gives values) = values
-  valuesOr other (refuses number) = other
+  abbrev pub values_or : A → Outcome A → A
+  values_or other (gives values) = values
+  values_or other (refuses number) = other

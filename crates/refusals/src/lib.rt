@@ -1,7 +1,8 @@
 // Why a call is refused: a named case for each cause of the scope's two lists, with what orders add to them, and its number there.
-ghost use mathlib.Core.Path.{_≡_};
-ghost use Rattle·refusals·specs.specs.Numbers.{numberOf};
+ghost use Rattle.std.specs.Prelude.{◌≡◌};
+ghost use Rattle.refusals.specs.Numbers.{number_of};
 
+#[derive(Drop)]
 pub enum Refusal {
     // The file ends inside a count or section.
     FileTooShort,
@@ -44,6 +45,7 @@ pub enum Refusal {
 }
 
 // How many bytes a call wrote at the front of those lent, or why none.
+#[derive(Drop)]
 pub enum Written {
     Bytes(usize),
     Refused(Refusal),
@@ -52,7 +54,7 @@ pub enum Written {
 impl Refusal {
     // The number that programs print and C callers are given.
     pub fn number(self) -> u8
-        ensures { λ r. ⌜ r ≡ numberOf self ⌝ }
+        ensures { result ≡ number_of self }
     {
         match self {
             Refusal::FileTooShort => 1,

@@ -1,36 +1,33 @@
 // Row starts of a table from counts of neighbours, and rows that grow at their ends. Nothing here knows of a file.
-ghost use mathlib.Core.Path.{_≡_};
-ghost use Prim.Native.Nat.{_+_, _≤_, _<_};
-ghost use lib.Dec.{ltb};
-ghost use lib.ListN.{length, set};
-ghost use Rattle·lists.specs.Lists.{at, put};
-ghost use Rattle·lists.specs.Below.{anyBelow, sumBelow, mapBelow};
-ghost use Rattle·table_spec.specs.Limits.{maxBuses, maxDegree};
-ghost use Rattle·table_spec.specs.Holds.{needsCanBeMet};
-ghost use Rattle·row_builder·specs.specs.GrowingRows.{AllZero, RowStarts};
-use network::Network;
-use network::can_be_met;
+ghost use Rattle.std.specs.Prelude.{◌≡◌, ◌+◌, ◌≤◌, ◌<◌, ltb, length, set};
+ghost use Rattle.lists.specs.Lists.{at, put};
+ghost use Rattle.lists.specs.Below.{any_below, sum_below, map_below};
+ghost use Rattle.table_spec.specs.Limits.{max_buses, max_degree};
+ghost use Rattle.table_spec.specs.Holds.{needs_can_be_met};
+ghost use Rattle.row_builder.specs.GrowingRows.{AllZero, RowStarts};
+
 use network::rows::entry;
+use network::{Network, can_be_met};
 
 // A count of 0 for each bus.
 pub fn zero_counts() -> [u16; Network::BUSES]
-    ensures { λ r. ⌜ AllZero r ⌝ }
+    ensures { AllZero result }
 {
     [0; Network::BUSES]
 }
 
 // Adds 1 to the count of a bus.
 pub fn increment(counts: &mut [u16; Network::BUSES], bus: usize)
-    requires { ⌜ (bus < maxBuses) × (at (now counts) bus < 65535) ⌝ }
-    ensures { λ _. ⌜ now (counts .exit) ≡ set (now (counts .entry)) bus (at (now (counts .entry)) bus + 1) ⌝ }
+    requires { (bus < max_buses) × (at counts.old bus < 65535) }
+    ensures { counts.new ≡ set counts.old bus (at counts.old bus + 1) }
 {
     counts[bus] = counts[bus] + 1;
 }
 
 // Whether one of n buses has more neighbours than it may have lines.
 pub fn degree_too_high(counts: &[u16; Network::BUSES], n: usize) -> bool
-    requires { ⌜ n ≤ maxBuses ⌝ }
-    ensures { λ b. ⌜ b ≡ anyBelow n (λ i. ltb maxDegree (at (now (counts .entry)) i)) ⌝ }
+    requires { n ≤ max_buses }
+    ensures { result ≡ any_below n (λ i. ltb max_degree (at counts.now i)) }
 {
     let mut bus = 0;
     while bus < n {
@@ -44,8 +41,8 @@ pub fn degree_too_high(counts: &[u16; Network::BUSES], n: usize) -> bool
 
 // Whether each bus can meet its need, having so many neighbours.
 pub fn needs_can_be_met(needs: &[u8], counts: &[u16]) -> bool
-    requires { ⌜ length (now needs) ≤ length (now counts) ⌝ }
-    ensures { λ b. ⌜ b ≡ needsCanBeMet (length (now (needs .entry))) (now (needs .entry)) (at (now (counts .entry))) ⌝ }
+    requires { length needs.now ≤ length counts.now }
+    ensures { result ≡ needs_can_be_met (length needs.now) needs.now (at counts.now) }
 {
     let mut bus = 0;
     while bus < needs.len() {
@@ -65,10 +62,10 @@ pub fn store_starts(
     table: &mut [u16],
     from: usize,
 ) -> usize
-    requires { ⌜ (n ≤ maxBuses) × (from + n + 1 ≤ length (now table)) ⌝ }
-    requires { ⌜ (length (now counts) ≡ maxBuses) × (sumBelow n (at (now counts)) < 65536) ⌝ }
-    ensures { λ _. ⌜ now (table .exit) ≡ put (now (table .entry)) from (mapBelow (n + 1) (λ i. sumBelow i (at (now (counts .entry))))) ⌝ }
-    ensures { λ r. ⌜ (r ≡ sumBelow n (at (now (counts .entry)))) × RowStarts n (now (counts .entry)) (now (counts .exit)) ⌝ }
+    requires n_le_max_buses { (n ≤ max_buses) × (from + n + 1 ≤ length table.old) }
+    requires counts_len { (length counts.old ≡ max_buses) × (sum_below n (at counts.old) < 65536) }
+    ensures table_after { table.new ≡ put table.old from (map_below (n + 1) (λ i. sum_below i (at counts.old))) }
+    ensures value { (result ≡ sum_below n (at counts.old)) × RowStarts n counts.old counts.new }
 {
     let mut start = 0;
     let mut bus = 0;
@@ -85,9 +82,9 @@ pub fn store_starts(
 
 // Writes x behind the numbers that the row of a bus has so far.
 pub fn append(rows: &mut [u16], next: &mut [u16; Network::BUSES], bus: usize, x: u16)
-    requires { ⌜ (bus < maxBuses) × (at (now next) bus < length (now rows)) × (at (now next) bus < 65535) ⌝ }
-    ensures { λ _. ⌜ now (rows .exit) ≡ set (now (rows .entry)) (at (now (next .entry)) bus) x ⌝ }
-    ensures { λ _. ⌜ now (next .exit) ≡ set (now (next .entry)) bus (at (now (next .entry)) bus + 1) ⌝ }
+    requires { (bus < max_buses) × (at next.old bus < length rows.old) × (at next.old bus < 65535) }
+    ensures rows_after { rows.new ≡ set rows.old (at next.old bus) x }
+    ensures next_after { next.new ≡ set next.old bus (at next.old bus + 1) }
 {
     let place = next[bus];
     rows[place as usize] = x;

@@ -1,2 +1,3 @@
 pub mod Summing
 pub mod Scoring
+pub mod BeyondShares

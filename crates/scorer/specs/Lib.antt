@@ -2,4 +2,3 @@
 pub mod ShareAnswers
 pub mod ScorerWork
 pub mod Examples
-pub mod BeyondShares

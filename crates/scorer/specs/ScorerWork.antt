@@ -1,14 +1,12 @@
 -- What the scorer's functions promise one another when all buses are scored.
 -- Definitions only.
-use mathlib.Core.List.{List}
-use Prim.Native.Nat.{ℕ, _+_, _^_, _<_}
-use lib.ListN.{length}
-use Rattle·lists.specs.Lists.{at}
-use Rattle·table_spec.specs.Limits.{maxDegree}
+use Rattle.std.specs.Prelude.{List, ℕ, ◌+◌, ◌^◌, ◌<◌, length}
+use Rattle.lists.specs.Lists.{at}
+use Rattle.table_spec.specs.Limits.{max_degree}
 
 -- how many degrees a bus may have
 abbrev pub degrees : ℕ
-degrees = maxDegree + 1
+degrees = max_degree + 1
 
 -- each of n buses has an entry, where x more fits
 abbrev pub Room : ℕ → ℕ → List ℕ → Type 0

@@ -1,19 +1,19 @@
 -- The outcomes that answers of Shares and Share stand for.
 -- Definitions only.
-use Prim.Native.Nat.{ℕ}
-use Rattle·refusals.specs.Numbers.{numberOf}
-use Rattle·refusals.specs.Outcomes.{Outcome, gives, refuses}
-use Rattle·scorer·specs.specs.declared.AllShares.{AllShares}
-use Rattle·scorer·specs.specs.declared.AllShares.the-variants as all
-use Rattle·scorer·specs.specs.declared.OneShare.{OneShare}
-use Rattle·scorer·specs.specs.declared.OneShare.the-variants as one
+use Rattle.std.specs.Prelude.{ℕ}
+use Rattle.refusals.specs.Numbers.{number_of}
+use Rattle.refusals.specs.Outcomes.{Outcome, gives, refuses}
+use Rattle.scorer.specs.declared.AllShares.{AllShares}
+use Rattle.scorer.specs.declared.AllShares.TheVariants as all
+use Rattle.scorer.specs.declared.OneShare.{OneShare}
+use Rattle.scorer.specs.declared.OneShare.TheVariants as one
 
 -- L, or the scope's number of the refusal
-abbrev pub outcomeOfShares : AllShares → Outcome ℕ
-outcomeOfShares (all.Over L) = gives L
-outcomeOfShares (all.Refused r) = refuses (numberOf r)
+abbrev pub outcome_of_shares : AllShares → Outcome ℕ
+outcome_of_shares (all.Over L) = gives L
+outcome_of_shares (all.Refused r) = refuses (number_of r)
 
 -- the numerator and L, or the scope's number of the refusal
-abbrev pub outcomeOfShare : OneShare → Outcome (ℕ × ℕ)
-outcomeOfShare (one.Is x L) = gives (x, L)
-outcomeOfShare (one.Refused r) = refuses (numberOf r)
+abbrev pub outcome_of_share : OneShare → Outcome (ℕ × ℕ)
+outcome_of_share (one.Is x L) = gives (x, L)
+outcome_of_share (one.Refused r) = refuses (number_of r)

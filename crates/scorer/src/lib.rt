@@ -1,50 +1,46 @@
 // Shares of the buses of a network: of all of them, or of one.
-ghost use mathlib.Core.Path.{_≡_};
-ghost use Prim.Native.Nat.{_*_, _≤_, _<_};
-ghost use lib.ListN.{length};
-ghost use Rattle·lists.specs.Lists.{Tabled, put};
-ghost use Rattle·lists.specs.Below.{mapBelow, range};
-ghost use Rattle·table_spec.specs.Limits.{maxWeight};
-ghost use Rattle·table_spec.specs.Layout.{busCount, need, degree};
-ghost use Rattle·table_spec.specs.Holds.{Scorable, Holds};
-ghost use Rattle·game.specs.Game.{neighbourTerm, numerator as formula};
-ghost use Rattle·share_spec.specs.Network.{denominator};
-ghost use Rattle·share_spec.specs.TableNetwork.{gameOf, Over};
-ghost use Rattle·share_spec.specs.Formula.{numeratorOver, numerator};
-ghost use Rattle·share_spec.specs.TermsGiven.{termTo};
-ghost use Rattle·two_way.specs.TwoWay.{networkOf};
-ghost use Rattle·share_terms.specs.Unit.{unit};
-ghost use Rattle·share_terms.specs.Added.{Added};
-ghost use Rattle·share_spec.specs.ShareOutcomes.{sharesOutcome, numeratorsAfter, AllFair, shareOutcome, OneFair};
-ghost use Rattle·scorer·specs.specs.ShareAnswers.{outcomeOfShares, outcomeOfShare};
-ghost use Rattle·scorer·specs.specs.ScorerWork.{degrees, Room};
+ghost use Rattle.std.specs.Prelude.{◌≡◌, ◌*◌, ◌≤◌, ◌<◌, length};
+ghost use Rattle.lists.specs.Lists.{Tabled, put};
+ghost use Rattle.lists.specs.Below.{map_below, range};
+ghost use Rattle.table_spec.specs.Limits.{max_weight};
+ghost use Rattle.table_spec.specs.Layout.{bus_count, need, degree};
+ghost use Rattle.table_spec.specs.Holds.{Scorable, Holds};
+ghost use Rattle.game.specs.Game.{neighbour_term, numerator as formula};
+ghost use Rattle.share_spec.specs.Network.{denominator};
+ghost use Rattle.share_spec.specs.TableNetwork.{game_of, Over};
+ghost use Rattle.share_spec.specs.Formula.{numerator_over, numerator};
+ghost use Rattle.share_spec.specs.TermsGiven.{term_to};
+ghost use Rattle.two_way.specs.TwoWay.{network_of};
+ghost use Rattle.share_terms.specs.Unit.{unit};
+ghost use Rattle.share_terms.specs.Added.{Added};
+ghost use Rattle.share_spec.specs.ShareOutcomes.{shares_outcome, numerators_after, AllFair, share_outcome, OneFair};
+ghost use Rattle.scorer.specs.ShareAnswers.{outcome_of_shares, outcome_of_share};
+ghost use Rattle.scorer.specs.ScorerWork.{degrees, Room};
+
 use network::Network;
 pub use network::Refusal;
 use network::rows::entry;
-use network::table::bus_count;
-use network::table::need;
-use network::table::neighbours;
-use network::table::weight;
-use share_terms::add_terms;
-use share_terms::clear;
+use network::table::{bus_count, need, neighbours, weight};
 pub use share_terms::denominator;
-use share_terms::term;
-use share_terms::unit;
+use share_terms::{add_terms, clear, term, unit};
 use table_check::holds;
 
 // The number that all numerators are over, or why there are none.
+#[derive(Drop)]
 pub enum AllShares {
     Over(u64),
     Refused(Refusal),
 }
 
 // A numerator and the number that it is over, or why there is none.
+#[derive(Drop)]
 pub enum OneShare {
     Is(u64, u64),
     Refused(Refusal),
 }
 
 // A numerator, and the number that it is over.
+#[derive(Drop)]
 pub struct BusShare {
     pub numerator: u64,
     pub over: u64,
@@ -55,7 +51,7 @@ const DEGREES: usize = Network::LINES_AT_BUS + 1;
 
 // The unit of each degree, so that no bus needs a division.
 fn units(over: u64) -> [u64; DEGREES]
-    ensures { λ r. ⌜ Tabled degrees (unit over) r ⌝ }
+    ensures { Tabled degrees (unit over) result }
 {
     let mut units = [0u64; DEGREES];
     let mut degree = 0;
@@ -68,9 +64,9 @@ fn units(over: u64) -> [u64; DEGREES]
 
 // Adds the terms of a bus.
 fn add_bus(table: &[u16], over: u64, units: &[u64; DEGREES], bus: usize, numerators: &mut [u64])
-    requires { ⌜ Scorable (now table) × (bus < busCount (now table)) × Over (now table) over ⌝ }
-    requires { ⌜ Tabled degrees (unit over) (now units) × Room (busCount (now table)) (maxWeight * over) (now numerators) ⌝ }
-    ensures { λ _. ⌜ Added (termTo (gameOf (now (table .entry))) over bus) (now (numerators .entry)) (now (numerators .exit)) ⌝ }
+    requires scorable { Scorable table.now × (bus < bus_count table.now) × Over table.now over }
+    requires tabled { Tabled degrees (unit over) units.now × Room (bus_count table.now) (max_weight * over) numerators.old }
+    ensures { Added (term_to (game_of table.now) over bus) numerators.old numerators.new }
 {
     let row = neighbours(table, bus);
     let weight = weight(table, bus);
@@ -80,8 +76,8 @@ fn add_bus(table: &[u16], over: u64, units: &[u64; DEGREES], bus: usize, numerat
 
 // Stores the numerators of all buses, whichever way the table's lines run, over any L that makes their terms whole.
 pub fn score_over(table: &[u16], over: u64, numerators: &mut [u64])
-    requires { ⌜ Scorable (now table) × (busCount (now table) ≤ length (now numerators)) × Over (now table) over ⌝ }
-    ensures { λ _. ⌜ now (numerators .exit) ≡ put (now (numerators .entry)) 0 (mapBelow (busCount (now (table .entry))) (λ v. formula (gameOf (now (table .entry))) (range (busCount (now (table .entry)))) v over)) ⌝ }
+    requires { Scorable table.now × (bus_count table.now ≤ length numerators.old) × Over table.now over }
+    ensures { numerators.new ≡ put numerators.old 0 (map_below (bus_count table.now) (λ v. formula (game_of table.now) (range (bus_count table.now)) v over)) }
 {
     let n = bus_count(table);
     let units = units(over);
@@ -95,9 +91,9 @@ pub fn score_over(table: &[u16], over: u64, numerators: &mut [u64])
 
 // Stores the numerators of all buses of a network over its own L, which it gives.
 pub fn score(table: &[u16], numerators: &mut [u64]) -> u64
-    requires { ⌜ Holds (now table) × (busCount (now table) ≤ length (now numerators)) ⌝ }
-    ensures { λ r. ⌜ r ≡ denominator (networkOf (now (table .entry))) ⌝ }
-    ensures { λ _. ⌜ now (numerators .exit) ≡ put (now (numerators .entry)) 0 (mapBelow (busCount (now (table .entry))) (numeratorOver (networkOf (now (table .entry))) (denominator (networkOf (now (table .entry)))))) ⌝ }
+    requires { Holds table.now × (bus_count table.now ≤ length numerators.old) }
+    ensures value { result ≡ denominator (network_of table.now) }
+    ensures numerators_after { numerators.new ≡ put numerators.old 0 (map_below (bus_count table.now) (numerator_over (network_of table.now) (denominator (network_of table.now)))) }
 {
     let over = denominator(table);
     score_over(table, over, numerators);
@@ -106,8 +102,8 @@ pub fn score(table: &[u16], numerators: &mut [u64]) -> u64
 
 // What a bus of weight 1 would give to each neighbour.
 fn given(table: &[u16], over: u64, bus: usize) -> u64
-    requires { ⌜ Scorable (now table) × (bus < busCount (now table)) × Over (now table) over ⌝ }
-    ensures { λ r. ⌜ r ≡ neighbourTerm (need (now (table .entry)) bus) (degree (now (table .entry)) bus) over ⌝ }
+    requires { Scorable table.now × (bus < bus_count table.now) × Over table.now over }
+    ensures { result ≡ neighbour_term (need table.now bus) (degree table.now bus) over }
 {
     let degree = neighbours(table, bus).len();
     let need = need(table, bus);
@@ -116,8 +112,8 @@ fn given(table: &[u16], over: u64, bus: usize) -> u64
 
 // The numerator of one bus: its own term, which is what its neighbours leave of L, and what they give it, each times the weight of the bus that it concerns.
 fn numerator(table: &[u16], over: u64, bus: usize) -> u64
-    requires { ⌜ Scorable (now table) × (bus < busCount (now table)) × Over (now table) over ⌝ }
-    ensures { λ r. ⌜ r ≡ numeratorOver (networkOf (now (table .entry))) over bus ⌝ }
+    requires { Scorable table.now × (bus < bus_count table.now) × Over table.now over }
+    ensures { result ≡ numerator_over (network_of table.now) over bus }
 {
     let row = neighbours(table, bus);
     let mut sum = weight(table, bus) * (over - (row.len() as u64) * given(table, over, bus));
@@ -132,8 +128,8 @@ fn numerator(table: &[u16], over: u64, bus: usize) -> u64
 
 // The numerator of one bus over the network's own L, and that L.
 pub fn share_of(table: &[u16], bus: usize) -> BusShare
-    requires { ⌜ Holds (now table) × (bus < busCount (now table)) ⌝ }
-    ensures { λ r. ⌜ (r .numerator ≡ numerator (networkOf (now (table .entry))) bus) × (r .over ≡ denominator (networkOf (now (table .entry)))) ⌝ }
+    requires { Holds table.now × (bus < bus_count table.now) }
+    ensures { (result.numerator ≡ numerator (network_of table.now) bus) × (result.over ≡ denominator (network_of table.now)) }
 {
     let over = denominator(table);
     BusShare {
@@ -144,9 +140,9 @@ pub fn share_of(table: &[u16], bus: usize) -> BusShare
 
 // The shares of all buses: the numerators are stored, and what they are over is given.
 pub fn shares(table: &[u16], numerators: &mut [u64]) -> AllShares
-    ensures answer { λ r. ⌜ outcomeOfShares r ≡ sharesOutcome (networkOf (now (table .entry))) (length (now (numerators .entry))) ⌝ }
-    ensures stored { λ _. ⌜ now (numerators .exit) ≡ numeratorsAfter (networkOf (now (table .entry))) (now (numerators .entry)) ⌝ }
-    ensures fair { λ r. ⌜ AllFair (networkOf (now (table .entry))) (length (now (numerators .entry))) (outcomeOfShares r) (now (numerators .exit)) ⌝ }
+    ensures answer { outcome_of_shares result ≡ shares_outcome (network_of table.now) (length numerators.old) }
+    ensures stored { numerators.new ≡ numerators_after (network_of table.now) numerators.old }
+    ensures fair { AllFair (network_of table.now) (length numerators.old) (outcome_of_shares result) numerators.new }
 {
     if !holds(table) {
         return AllShares::Refused(Refusal::NoNetwork);
@@ -160,8 +156,8 @@ pub fn shares(table: &[u16], numerators: &mut [u64]) -> AllShares
 
 // The share of one bus: its numerator, and what it is over.
 pub fn share(table: &[u16], bus: usize) -> OneShare
-    ensures answer { λ r. ⌜ outcomeOfShare r ≡ shareOutcome (networkOf (now (table .entry))) bus ⌝ }
-    ensures fair { λ r. ⌜ OneFair (networkOf (now (table .entry))) bus (outcomeOfShare r) ⌝ }
+    ensures answer { outcome_of_share result ≡ share_outcome (network_of table.now) bus }
+    ensures fair { OneFair (network_of table.now) bus (outcome_of_share result) }
 {
     if !holds(table) {
         return OneShare::Refused(Refusal::NoNetwork);

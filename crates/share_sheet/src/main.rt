@@ -1,12 +1,7 @@
 // The sheet program: a network file on standard input, its share sheet on standard output.
 use network::Network;
-use report::LONGEST_SHEET;
-use report::report;
-use standard_io::Input;
-use standard_io::fail_reading;
-use standard_io::print;
-use standard_io::read_input;
-use standard_io::warn;
+use report::{LONGEST_SHEET, report};
+use standard_io::{Input, fail_reading, print, read_input, warn};
 
 // Prints the sheet of a file, or the line that refuses it.
 fn answer(file: &[u8]) {

@@ -1,50 +1,47 @@
 // The library for C, and for languages that call C: each call of the scope, the file writer, the outage study, the whole sheet and the sizes that are enough, on numbers, slices and lent places.
 // A call gives a 32-bit status: 0, or the scope's number where it is refused. Values are handed back through lent places, which a refused call leaves as they were.
-ghost use mathlib.Core.Path.{_≡_};
-ghost use lib.ListN.{length};
-ghost use Rattle·refusals.specs.Numbers.{numberOf};
-ghost use Rattle·table_spec.specs.Limits.{maxBuses, maxEntries, maxBytes};
-ghost use Rattle·table_spec.specs.TableOutcomes.{degreeOutcome, rowPlaceOutcome, RowStands};
-ghost use Rattle·read_spec.specs.ReadOutcome.{readOutcome, tableAfter, Recorded};
-ghost use Rattle·write_spec.specs.WriteOutcome.{writeOutcome, bytesAfter};
-ghost use Rattle·two_way.specs.TwoWay.{networkOf};
-ghost use Rattle·share_spec.specs.ShareOutcomes.{sharesOutcome, numeratorsAfter, AllFair, shareOutcome, OneFair};
-ghost use Rattle·outage_spec.specs.StudyOutcome.{studyOutcome, changesAfter, AllStudied};
-ghost use Rattle·fraction.specs.Cancel.{cancelOutcome, CancelRule};
-ghost use Rattle·sheet.specs.LineOutcomes.{lineOutcome, lineAfter};
-ghost use Rattle·whole_sheet.specs.WholeSheet.{sheetOutcome, sheetAfter};
-ghost use Rattle·whole_sheet.specs.SheetRoom.{longestSheet};
-ghost use Rattle·share_sheet_c·specs.specs.Status.{ByStatus, outcomeOfStatus, counted};
+ghost use Rattle.std.specs.Prelude.{◌≡◌, length};
+ghost use Rattle.refusals.specs.Numbers.{number_of};
+ghost use Rattle.table_spec.specs.Limits.{max_buses, max_entries, max_bytes};
+ghost use Rattle.table_spec.specs.TableOutcomes.{degree_outcome, row_place_outcome, RowStands};
+ghost use Rattle.read_spec.specs.ReadOutcome.{read_outcome, table_after, Recorded};
+ghost use Rattle.write_spec.specs.WriteOutcome.{write_outcome, bytes_after};
+ghost use Rattle.two_way.specs.TwoWay.{network_of};
+ghost use Rattle.share_spec.specs.ShareOutcomes.{shares_outcome, numerators_after, AllFair, share_outcome, OneFair};
+ghost use Rattle.outage_spec.specs.StudyOutcome.{study_outcome, changes_after, AllStudied};
+ghost use Rattle.fraction.specs.Cancel.{cancel_outcome, CancelRule};
+ghost use Rattle.sheet.specs.LineOutcomes.{line_outcome, line_after};
+ghost use Rattle.whole_sheet.specs.WholeSheet.{sheet_outcome, sheet_after};
+ghost use Rattle.whole_sheet.specs.SheetRoom.{longest_sheet};
+ghost use Rattle.share_sheet_c.specs.Status.{ByStatus, outcome_of_status, counted};
+
 use fraction::Cancelled;
 use network::Network;
 use outage::AllChanges;
 use reader::Reading;
-use refusals::Refusal;
-use refusals::Written;
-use scorer::AllShares;
-use scorer::OneShare;
-use table_lookup::BusDegree;
-use table_lookup::RowPlace;
+use refusals::{Refusal, Written};
+use scorer::{AllShares, OneShare};
+use table_lookup::{BusDegree, RowPlace};
 use whole_sheet::LONGEST_SHEET;
 
 // The status of a refused call.
 fn status(cause: Refusal) -> u32
-    ensures { λ r. ⌜ r ≡ numberOf cause ⌝ }
+    ensures { result ≡ number_of cause }
 {
     cause.number() as u32
 }
 
 // Reads a file into a lent table, and gives n and m.
-#[no_mangle]
+#[unsafe(no_mangle)]
 pub extern "C" fn share_sheet_read(
     file: &[u8],
     table: &mut [u16],
     buses: &mut usize,
     lines: &mut usize,
 ) -> u32
-    ensures answer { λ r. ⌜ ByStatus (readOutcome (now (file .entry)) (length (now (table .entry)))) (counted (now (buses .entry)) (now (lines .entry))) r (counted (now (buses .exit)) (now (lines .exit))) ⌝ }
-    ensures stored { λ _. ⌜ now (table .exit) ≡ tableAfter (now (file .entry)) (now (table .entry)) ⌝ }
-    ensures recorded { λ r. ⌜ Recorded (now (file .entry)) (now (table .entry)) (outcomeOfStatus r (counted (now (buses .exit)) (now (lines .exit)))) (now (table .exit)) ⌝ }
+    ensures answer { ByStatus (read_outcome file.now (length table.old)) (counted buses.old lines.old) result (counted buses.new lines.new) }
+    ensures stored { table.new ≡ table_after file.now table.old }
+    ensures recorded { Recorded file.now table.old (outcome_of_status result (counted buses.new lines.new)) table.new }
 {
     match reader::read(file, table) {
         Reading::Refused(cause) => status(cause),
@@ -57,10 +54,10 @@ pub extern "C" fn share_sheet_read(
 }
 
 // Writes the file of a table's network at the front of lent bytes, and gives its byte count.
-#[no_mangle]
+#[unsafe(no_mangle)]
 pub extern "C" fn share_sheet_write(table: &[u16], file: &mut [u8], bytes: &mut usize) -> u32
-    ensures answer { λ r. ⌜ ByStatus (writeOutcome (now (table .entry)) (length (now (file .entry)))) (now (bytes .entry)) r (now (bytes .exit)) ⌝ }
-    ensures written { λ _. ⌜ now (file .exit) ≡ bytesAfter (now (table .entry)) (now (file .entry)) ⌝ }
+    ensures answer { ByStatus (write_outcome table.now (length file.old)) bytes.old result bytes.new }
+    ensures written { file.new ≡ bytes_after table.now file.old }
 {
     match writer::write(table, file) {
         Written::Refused(cause) => status(cause),
@@ -72,9 +69,9 @@ pub extern "C" fn share_sheet_write(table: &[u16], file: &mut [u8], bytes: &mut 
 }
 
 // Gives the degree of a bus.
-#[no_mangle]
+#[unsafe(no_mangle)]
 pub extern "C" fn share_sheet_degree(table: &[u16], bus: usize, degree: &mut usize) -> u32
-    ensures answer { λ r. ⌜ ByStatus (degreeOutcome (now (table .entry)) bus) (now (degree .entry)) r (now (degree .exit)) ⌝ }
+    ensures answer { ByStatus (degree_outcome table.now bus) degree.old result degree.new }
 {
     match table_lookup::degree(table, bus) {
         BusDegree::Refused(cause) => status(cause),
@@ -87,15 +84,15 @@ pub extern "C" fn share_sheet_degree(table: &[u16], bus: usize, degree: &mut usi
 
 // Gives where the row of a bus begins in the table, and how many entries it has.
 // The scope's Row is that part of the table itself, and where it is refused the empty part. So a caller in C takes the `entries` entries from `start` on where the status is 0, and otherwise none, since both places are then as they were.
-#[no_mangle]
+#[unsafe(no_mangle)]
 pub extern "C" fn share_sheet_row(
     table: &[u16],
     bus: usize,
     start: &mut usize,
     entries: &mut usize,
 ) -> u32
-    ensures answer { λ r. ⌜ ByStatus (rowPlaceOutcome (now (table .entry)) bus) (now (start .entry), now (entries .entry)) r (now (start .exit), now (entries .exit)) ⌝ }
-    ensures stands { λ r. ⌜ RowStands (now (table .entry)) bus (outcomeOfStatus r (now (start .exit), now (entries .exit))) ⌝ }
+    ensures answer { ByStatus (row_place_outcome table.now bus) (start.old, entries.old) result (start.new, entries.new) }
+    ensures stands { RowStands table.now bus (outcome_of_status result (start.new, entries.new)) }
 {
     match table_lookup::row_place(table, bus) {
         RowPlace::Refused(cause) => status(cause),
@@ -108,11 +105,11 @@ pub extern "C" fn share_sheet_row(
 }
 
 // Stores the numerators of all buses, and gives L.
-#[no_mangle]
+#[unsafe(no_mangle)]
 pub extern "C" fn share_sheet_shares(table: &[u16], numerators: &mut [u64], over: &mut u64) -> u32
-    ensures answer { λ r. ⌜ ByStatus (sharesOutcome (networkOf (now (table .entry))) (length (now (numerators .entry)))) (now (over .entry)) r (now (over .exit)) ⌝ }
-    ensures stored { λ _. ⌜ now (numerators .exit) ≡ numeratorsAfter (networkOf (now (table .entry))) (now (numerators .entry)) ⌝ }
-    ensures fair { λ r. ⌜ AllFair (networkOf (now (table .entry))) (length (now (numerators .entry))) (outcomeOfStatus r (now (over .exit))) (now (numerators .exit)) ⌝ }
+    ensures answer { ByStatus (shares_outcome (network_of table.now) (length numerators.old)) over.old result over.new }
+    ensures stored { numerators.new ≡ numerators_after (network_of table.now) numerators.old }
+    ensures fair { AllFair (network_of table.now) (length numerators.old) (outcome_of_status result over.new) numerators.new }
 {
     match scorer::shares(table, numerators) {
         AllShares::Refused(cause) => status(cause),
@@ -124,15 +121,15 @@ pub extern "C" fn share_sheet_shares(table: &[u16], numerators: &mut [u64], over
 }
 
 // Gives the numerator of one bus, and L.
-#[no_mangle]
+#[unsafe(no_mangle)]
 pub extern "C" fn share_sheet_share(
     table: &[u16],
     bus: usize,
     numerator: &mut u64,
     over: &mut u64,
 ) -> u32
-    ensures answer { λ r. ⌜ ByStatus (shareOutcome (networkOf (now (table .entry))) bus) (now (numerator .entry), now (over .entry)) r (now (numerator .exit), now (over .exit)) ⌝ }
-    ensures fair { λ r. ⌜ OneFair (networkOf (now (table .entry))) bus (outcomeOfStatus r (now (numerator .exit), now (over .exit))) ⌝ }
+    ensures answer { ByStatus (share_outcome (network_of table.now) bus) (numerator.old, over.old) result (numerator.new, over.new) }
+    ensures fair { OneFair (network_of table.now) bus (outcome_of_status result (numerator.new, over.new)) }
 {
     match scorer::share(table, bus) {
         OneShare::Refused(cause) => status(cause),
@@ -145,16 +142,16 @@ pub extern "C" fn share_sheet_share(
 }
 
 // Stores the changes of all buses when a line goes out, and gives L.
-#[no_mangle]
+#[unsafe(no_mangle)]
 pub extern "C" fn share_sheet_outage(
     table: &[u16],
     line: usize,
     changes: &mut [i64],
     over: &mut u64,
 ) -> u32
-    ensures answer { λ r. ⌜ ByStatus (studyOutcome (now (table .entry)) line (length (now (changes .entry)))) (now (over .entry)) r (now (over .exit)) ⌝ }
-    ensures stored { λ _. ⌜ now (changes .exit) ≡ changesAfter (now (table .entry)) line (now (changes .entry)) ⌝ }
-    ensures fair { λ r. ⌜ AllStudied (now (table .entry)) line (length (now (changes .entry))) (outcomeOfStatus r (now (over .exit))) (now (changes .exit)) ⌝ }
+    ensures answer { ByStatus (study_outcome table.now line (length changes.old)) over.old result over.new }
+    ensures stored { changes.new ≡ changes_after table.now line changes.old }
+    ensures fair { AllStudied table.now line (length changes.old) (outcome_of_status result over.new) changes.new }
 {
     match outage::changes(table, line, changes) {
         AllChanges::Refused(cause) => status(cause),
@@ -166,15 +163,15 @@ pub extern "C" fn share_sheet_outage(
 }
 
 // Gives a fraction in lowest terms.
-#[no_mangle]
+#[unsafe(no_mangle)]
 pub extern "C" fn share_sheet_cancel(
     numerator: u64,
     denominator: u64,
     top: &mut u64,
     bottom: &mut u64,
 ) -> u32
-    ensures answer { λ r. ⌜ ByStatus (cancelOutcome numerator denominator) (now (top .entry), now (bottom .entry)) r (now (top .exit), now (bottom .exit)) ⌝ }
-    ensures rule { λ r. ⌜ CancelRule numerator denominator (outcomeOfStatus r (now (top .exit), now (bottom .exit))) ⌝ }
+    ensures answer { ByStatus (cancel_outcome numerator denominator) (top.old, bottom.old) result (top.new, bottom.new) }
+    ensures rule { CancelRule numerator denominator (outcome_of_status result (top.new, bottom.new)) }
 {
     match fraction::cancel(numerator, denominator) {
         Cancelled::Refused(cause) => status(cause),
@@ -187,15 +184,15 @@ pub extern "C" fn share_sheet_cancel(
 }
 
 // Writes one line of the sheet at the front of a lent text, and gives its byte count.
-#[no_mangle]
+#[unsafe(no_mangle)]
 pub extern "C" fn share_sheet_line(
     table: &[u16],
     line: usize,
     text: &mut [u8],
     bytes: &mut usize,
 ) -> u32
-    ensures answer { λ r. ⌜ ByStatus (lineOutcome (networkOf (now (table .entry))) line (length (now (text .entry)))) (now (bytes .entry)) r (now (bytes .exit)) ⌝ }
-    ensures written { λ _. ⌜ now (text .exit) ≡ lineAfter (networkOf (now (table .entry))) line (now (text .entry)) ⌝ }
+    ensures answer { ByStatus (line_outcome (network_of table.now) line (length text.old)) bytes.old result bytes.new }
+    ensures written { text.new ≡ line_after (network_of table.now) line text.old }
 {
     match sheet::line(table, line, text) {
         Written::Refused(cause) => status(cause),
@@ -207,10 +204,10 @@ pub extern "C" fn share_sheet_line(
 }
 
 // Writes the whole sheet at the front of a lent text, and gives its byte count.
-#[no_mangle]
+#[unsafe(no_mangle)]
 pub extern "C" fn share_sheet_whole(table: &[u16], text: &mut [u8], bytes: &mut usize) -> u32
-    ensures answer { λ r. ⌜ ByStatus (sheetOutcome (networkOf (now (table .entry))) (length (now (text .entry)))) (now (bytes .entry)) r (now (bytes .exit)) ⌝ }
-    ensures written { λ _. ⌜ now (text .exit) ≡ sheetAfter (networkOf (now (table .entry))) (now (text .entry)) ⌝ }
+    ensures answer { ByStatus (sheet_outcome (network_of table.now) (length text.old)) bytes.old result bytes.new }
+    ensures written { text.new ≡ sheet_after (network_of table.now) text.old }
 {
     match whole_sheet::whole(table, text) {
         Written::Refused(cause) => status(cause),
@@ -222,41 +219,41 @@ pub extern "C" fn share_sheet_whole(table: &[u16], text: &mut [u8], bytes: &mut 
 }
 
 // The most buses of a network: as many numerators or changes are enough for each.
-#[no_mangle]
+#[unsafe(no_mangle)]
 pub extern "C" fn share_sheet_max_buses() -> usize
-    ensures { λ r. ⌜ r ≡ maxBuses ⌝ }
+    ensures { result ≡ max_buses }
 {
     Network::BUSES
 }
 
 // The most entries of a table: as many are enough for each network.
-#[no_mangle]
+#[unsafe(no_mangle)]
 pub extern "C" fn share_sheet_max_entries() -> usize
-    ensures { λ r. ⌜ r ≡ maxEntries ⌝ }
+    ensures { result ≡ max_entries }
 {
     Network::ENTRIES
 }
 
 // The most bytes of a file.
-#[no_mangle]
+#[unsafe(no_mangle)]
 pub extern "C" fn share_sheet_max_bytes() -> usize
-    ensures { λ r. ⌜ r ≡ maxBytes ⌝ }
+    ensures { result ≡ max_bytes }
 {
     Network::BYTES
 }
 
 // The most bytes of a file that is written: as many are enough for each network.
-#[no_mangle]
+#[unsafe(no_mangle)]
 pub extern "C" fn share_sheet_max_file() -> usize
-    ensures { λ r. ⌜ r ≡ maxBytes ⌝ }
+    ensures { result ≡ max_bytes }
 {
     Network::BYTES
 }
 
 // The most bytes of a sheet: as many are enough for each network's, and for each of its lines.
-#[no_mangle]
+#[unsafe(no_mangle)]
 pub extern "C" fn share_sheet_max_text() -> usize
-    ensures { λ r. ⌜ r ≡ longestSheet ⌝ }
+    ensures { result ≡ longest_sheet }
 {
     LONGEST_SHEET
 }

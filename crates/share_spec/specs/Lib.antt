@@ -4,11 +4,5 @@ pub mod Formula
 pub mod TableNetwork
 pub mod ShareOutcomes
 pub mod Examples
-pub mod Denominator
-pub mod TermBounds
-pub mod FairFormula
 pub mod TermsGiven
-pub mod NetworkIslands
-pub mod TableGame
 pub mod ShareClaims
-pub mod SharePromises

@@ -1,76 +1,16 @@
 -- What is due of Shares and Share. Of a network it is fair, if its kind shows that shares are defined; and Share gives the entry that Shares stores.
-use mathlib.Core.Bool.{true, false}
-use mathlib.Core.List.{List}
-use mathlib.Core.Path.{_≡_, refl, sym, ap, subst, _∙_}
-use Prim.Native.Nat.{ℕ, _≤_, _<_}
-use native.Mathlib.Omega.{arith}
-use lib.ListN.{length}
-use Rattle·lists.specs.Lists.{at}
-use Rattle·lists.specs.Below.{mapBelow}
-use Rattle·lists.specs.Places.{at-append}
-use Rattle·lists.specs.SumsBelow.{sumBelow-same}
-use Rattle·lists.specs.JoinBelow.{length-mapBelow, mapBelow-at}
-use Rattle·refusals.specs.Outcomes.{Outcome, gives, refuses}
-use Rattle·refusals.specs.Due.{Due, Answered, both, not-below, accept}
-use Rattle·table_spec.specs.TableOutcomes.{busCauses}
-use Rattle·table_spec.specs.TableCauses.{no-network, on-held, on-bus}
-use Rattle·share_spec·specs.specs.Network.{Network, denominator, Sound}
-use Rattle·share_spec·specs.specs.Formula.{numerator, FairShare}
-use Rattle·share_spec·specs.specs.FairFormula.{fair, whole}
-use Rattle·share_spec·specs.specs.ShareOutcomes.{sharesCauses, sharesOutcome, storedNumerators, numeratorsAfter, AllFair, shareOutcome, OneFair}
+use Rattle.std.specs.Prelude.{List, ℕ, length}
+use Rattle.refusals.specs.Outcomes.{Outcome}
+use Rattle.refusals.specs.Due.{Due, Answered}
+use Rattle.table_spec.specs.TableOutcomes.{bus_causes}
+use Rattle.share_spec.specs.Network.{Network, denominator}
+use Rattle.share_spec.specs.Formula.{numerator}
+use Rattle.share_spec.specs.ShareOutcomes.{shares_causes, stored_numerators}
 
 -- what is due of Shares, where entries that held x are lent
 abbrev pub SharesDue : Network → List ℕ → Outcome ℕ → List ℕ → Type 0
-SharesDue N x = Due (sharesCauses N (length x)) (denominator N) (storedNumerators N x) x
+SharesDue N x = Due (shares_causes N (length x)) (denominator N) (stored_numerators N x) x
 
 -- and of Share
 abbrev pub ShareDue : Network → ℕ → Outcome (ℕ × ℕ) → Type 0
-ShareDue N bus = Answered (busCauses (N .held) (N .buses) bus) (numerator N bus, denominator N)
-
--- what is due of Shares is answered and stored
-pub shares-due : (N : Network) (x : List ℕ) {o : Outcome ℕ} {y : List ℕ} → SharesDue N x o y → (o ≡ sharesOutcome N (length x)) × (y ≡ numeratorsAfter N x)
-shares-due N x d = both d
-
--- a slice that holds no network is refused, however few entries are lent, and they are kept
-pub none-held : (N : Network) (x : List ℕ) → N .held ≡ false → (refuses 11 ≡ sharesOutcome N (length x)) × (x ≡ numeratorsAfter N x)
-none-held N x h = shares-due N x (no-network h)
-
--- ---- a network, and entries enough lent
-
-module _ (N : Network) (h : N .held ≡ true) where
-  one-given : (v : ℕ) → v < N .buses → ShareDue N v (gives (numerator N v, denominator N))
-  one-given v b = on-held h (on-bus refl b (accept refl refl))
-
-  module _ (x : List ℕ) (l : N .buses ≤ length x) where
-    all-given : SharesDue N x (gives (denominator N)) (storedNumerators N x)
-    all-given = on-held h (not-below refl refl l (accept refl refl))
-
-    entry-is : (v : ℕ) → v < N .buses → at (storedNumerators N x) v ≡ numerator N v
-    unfolding storedNumerators
-    entry-is v b =
-        at-append (mapBelow (N .buses) (numerator N)) _ v (omega (arith, length-mapBelow (N .buses) (numerator N)))
-        ∙ mapBelow-at (numerator N) (N .buses) b
-
-    -- Share gives the entry that Shares stores, and the same L
-    pub same-share : (v : ℕ) → v < N .buses → (sharesOutcome N (length x) ≡ gives (denominator N)) × (shareOutcome N v ≡ gives (at (numeratorsAfter N x) v, denominator N))
-    same-share v b =
-        let d = shares-due N x all-given in
-        (sym (d .0), sym (one-given v b .answered) ∙ ap (λ y. gives (y, denominator N)) (sym (entry-is v b) ∙ ap (λ a. at a v) (d .1)))
-
--- ---- the third demand follows from what is answered and stored
-
-module _ (N : Network) (sound : N .held ≡ true → Sound N) where
-  pub all-fair : (x : List ℕ) {o : Outcome ℕ} {after : List ℕ} → SharesDue N x o after → AllFair N (length x) o after
-  all-fair x {after = after} d h l =
-      let due = all-given N h x l in
-      let entry : (v : ℕ) → v < N .buses → at after v ≡ numerator N v = λ v b. ap (λ a. at a v) (d .after ∙ sym (due .after)) ∙ entry-is N h x l v b in
-      record {
-        L = denominator N;
-        given = d .answered ∙ sym (due .answered);
-        each = λ v b. subst (FairShare N (denominator N) v) (sym (entry v b)) (fair (sound h) v b);
-        whole = sumBelow-same (at after) (numerator N) (N .buses) entry ∙ whole (sound h);
-      }
-
-  pub one-fair : (bus : ℕ) {o : Outcome (ℕ × ℕ)} → ShareDue N bus o → OneFair N bus o
-  one-fair bus d h b =
-      record { x = numerator N bus; L = denominator N; given = d .answered ∙ sym (one-given N h bus b .answered); share = fair (sound h) bus b }
+ShareDue N bus = Answered (bus_causes N.held N.buses bus) (numerator N bus, denominator N)

@@ -1,10 +1,7 @@
 -- What functions that add to the entries of a slice promise one another.
 -- Definitions only.
-use mathlib.Core.List.{List}
-use mathlib.Core.Path.{_≡_}
-use Prim.Native.Nat.{ℕ, _+_}
-use lib.ListN.{length}
-use Rattle·lists.specs.Lists.{at}
+use Rattle.std.specs.Prelude.{List, ◌≡◌, ℕ, ◌+◌, length}
+use Rattle.lists.specs.Lists.{at}
 
 -- f x was added to each entry x
 pub record Added (f : ℕ → ℕ) (before after : List ℕ) : Type 0 where

@@ -3,7 +3,3 @@ pub mod Unit
 pub mod TermCases
 pub mod Added
 pub mod Examples
-pub mod CaseLaws
-pub mod TermUnits
-pub mod Adding
-pub mod RowTerms

@@ -1,26 +1,24 @@
 // What shares are made of: the common denominator L, what each bus gives to each of its neighbours, and how that is added up.
-ghost use mathlib.Core.Path.{_≡_};
-ghost use Prim.Native.Nat.{ℕ, suc, _+_, _*_, _^_, _≤_, _<_};
-ghost use lib.ListN.{length, replicate};
-ghost use Rattle·lists.specs.Lists.{count, _∈_, at, put};
-ghost use Rattle·lists.specs.Below.{mapBelow};
-ghost use Rattle·fraction.specs.Divisors.{lcmAll};
-ghost use Rattle·table_spec.specs.Limits.{maxDegree, maxWeight};
-ghost use Rattle·table_spec.specs.Holds.{Scorable};
-ghost use Rattle·game.specs.Game.{neighbourTerm};
-ghost use Rattle·share_spec.specs.TableNetwork.{largestDegree, divisorsOf, maxDenominator};
-ghost use Rattle·share_spec.specs.TermsGiven.{termsFrom};
-ghost use Rattle·share_terms·specs.specs.Unit.{unit, Divided};
-ghost use Rattle·share_terms·specs.specs.TermCases.{termCase};
-ghost use Rattle·share_terms·specs.specs.Added.{Added};
+ghost use Rattle.std.specs.Prelude.{◌≡◌, ℕ, suc, ◌+◌, ◌*◌, ◌^◌, ◌≤◌, ◌<◌, length, replicate};
+ghost use Rattle.lists.specs.Lists.{count, ◌∈◌, at, put};
+ghost use Rattle.lists.specs.Below.{map_below};
+ghost use Rattle.fraction.specs.Divisors.{lcm_all};
+ghost use Rattle.table_spec.specs.Limits.{max_degree, max_weight};
+ghost use Rattle.table_spec.specs.Holds.{Scorable};
+ghost use Rattle.game.specs.Game.{neighbour_term};
+ghost use Rattle.share_spec.specs.TableNetwork.{largest_degree, divisors_of, max_denominator};
+ghost use Rattle.share_spec.specs.TermsGiven.{terms_from};
+ghost use Rattle.share_terms.specs.Unit.{unit, Divided};
+ghost use Rattle.share_terms.specs.TermCases.{term_case};
+ghost use Rattle.share_terms.specs.Added.{Added};
+
 use fraction::lcm;
 use network::rows::entry;
-use network::table::bus_count;
-use network::table::neighbours;
+use network::table::{bus_count, neighbours};
 
 fn largest_degree(table: &[u16]) -> usize
-    requires { ⌜ Scorable (now table) ⌝ }
-    ensures { λ r. ⌜ r ≡ largestDegree (now (table .entry)) ⌝ }
+    requires { Scorable table.now }
+    ensures { result ≡ largest_degree table.now }
 {
     let n = bus_count(table);
     let mut largest = 0;
@@ -37,8 +35,8 @@ fn largest_degree(table: &[u16]) -> usize
 
 // The least common multiple of 1 to m. The upper half is enough, since each number up to m / 2 divides its double.
 fn multiple_up_to(m: usize) -> u64
-    requires { ⌜ m ≤ 1 + maxDegree ⌝ }
-    ensures { λ r. ⌜ r ≡ lcmAll (mapBelow m suc) ⌝ }
+    requires { m ≤ 1 + max_degree }
+    ensures { result ≡ lcm_all (map_below m suc) }
 {
     let mut multiple = 1;
     let mut k = m / 2;
@@ -51,16 +49,16 @@ fn multiple_up_to(m: usize) -> u64
 
 // L: what all shares of a network are over.
 pub fn denominator(table: &[u16]) -> u64
-    requires { ⌜ Scorable (now table) ⌝ }
-    ensures { λ r. ⌜ r ≡ lcmAll (divisorsOf (now (table .entry))) ⌝ }
+    requires { Scorable table.now }
+    ensures { result ≡ lcm_all (divisors_of table.now) }
 {
     multiple_up_to(1 + largest_degree(table))
 }
 
 // L over d (d + 1), which the terms of a bus of degree d are multiples of. A bus of degree 0 has no neighbour to give to.
 pub fn unit(over: u64, degree: usize) -> u64
-    requires { ⌜ degree ≤ maxDegree ⌝ }
-    ensures { λ r. ⌜ r ≡ unit over degree ⌝ }
+    requires { degree ≤ max_degree }
+    ensures { result ≡ unit over degree }
 {
     if degree == 0 {
         return 0;
@@ -70,7 +68,7 @@ pub fn unit(over: u64, degree: usize) -> u64
 
 // Which case a bus is in by its need and its degree, the earlier where two apply: 1 is need above degree, 2 need equal to degree, 3 need 1, and 4 need between them.
 fn term_case(need: usize, degree: usize) -> usize
-    ensures { λ r. ⌜ r ≡ termCase need degree ⌝ }
+    ensures { result ≡ term_case need degree }
 {
     if need > degree {
         return 1;
@@ -86,8 +84,8 @@ fn term_case(need: usize, degree: usize) -> usize
 
 // What a bus gives to each neighbour, by its need, its degree d and its unit: its term over L, which is d (d + 1) units.
 pub fn term(need: usize, degree: usize, unit: u64) -> u64
-    requires { ⌜ (1 ≤ need) × (degree ≤ maxDegree) × (unit * (degree * (degree + 1)) ≤ maxDenominator) ⌝ }
-    ensures { λ r. ⌜ r ≡ neighbourTerm need degree (unit * (degree * (degree + 1))) ⌝ }
+    requires { (1 ≤ need) × (degree ≤ max_degree) × (unit * (degree * (degree + 1)) ≤ max_denominator) }
+    ensures { result ≡ neighbour_term need degree (unit * (degree * (degree + 1))) }
 {
     match term_case(need, degree) {
         // need above degree: 0
@@ -103,8 +101,8 @@ pub fn term(need: usize, degree: usize, unit: u64) -> u64
 
 // Stores zeros in the first n entries.
 pub fn clear(numerators: &mut [u64], n: usize)
-    requires { ⌜ n ≤ length (now numerators) ⌝ }
-    ensures { λ _. ⌜ now (numerators .exit) ≡ put (now (numerators .entry)) 0 (replicate n 0) ⌝ }
+    requires { n ≤ length numerators.old }
+    ensures { numerators.new ≡ put numerators.old 0 (replicate n 0) }
 {
     let mut bus = 0;
     while bus < n {
@@ -115,8 +113,8 @@ pub fn clear(numerators: &mut [u64], n: usize)
 
 // Adds a term to the entry of each bus in a row.
 pub fn give(row: &[u16], term: u64, numerators: &mut [u64])
-    requires { ⌜ ((bus : ℕ) → bus ∈ now row → (bus < length (now numerators)) × (at (now numerators) bus + term * count bus (now row) < 2 ^ 64)) ⌝ }
-    ensures { λ _. ⌜ Added (λ bus. term * count bus (now (row .entry))) (now (numerators .entry)) (now (numerators .exit)) ⌝ }
+    requires { (bus : ℕ) → bus ∈ row.now → (bus < length numerators.old) × (at numerators.old bus + term * count bus row.now < 2 ^ 64) }
+    ensures { Added (λ bus. term * count bus row.now) numerators.old numerators.new }
 {
     let mut k = 0;
     while k < row.len() {
@@ -137,10 +135,10 @@ pub fn add_terms(
     bus: usize,
     numerators: &mut [u64],
 )
-    requires { ⌜ (weight ≤ maxWeight) × (1 ≤ need) × (length (now row) ≤ maxDegree) × Divided (length (now row)) over × (one ≡ unit over (length (now row))) ⌝ }
-    requires { ⌜ (bus < length (now numerators)) × (at (now numerators) bus + maxWeight * over < 2 ^ 64) ⌝ }
-    requires { ⌜ ((v : ℕ) → v ∈ now row → (v < length (now numerators)) × (at (now numerators) v + maxWeight * over < 2 ^ 64)) ⌝ }
-    ensures { λ _. ⌜ Added (termsFrom weight need (now (row .entry)) over bus) (now (numerators .entry)) (now (numerators .exit)) ⌝ }
+    requires weight_le_max_weight { (weight ≤ max_weight) × (1 ≤ need) × (length row.now ≤ max_degree) × Divided (length row.now) over × (one ≡ unit over (length row.now)) }
+    requires bus_in_bounds { (bus < length numerators.old) × (at numerators.old bus + max_weight * over < 2 ^ 64) }
+    requires by_index { (v : ℕ) → v ∈ row.now → (v < length numerators.old) × (at numerators.old v + max_weight * over < 2 ^ 64) }
+    ensures { Added (terms_from weight need row.now over bus) numerators.old numerators.new }
 {
     let term = term(need, row.len(), one);
     numerators[bus] += weight * (over - (row.len() as u64) * term);

@@ -3,7 +3,4 @@ pub mod Sheet
 pub mod LineOutcomes
 pub mod Examples
 pub mod LineRoom
-pub mod LineFits
-pub mod LineWriting
 pub mod LineDue
-pub mod BeyondLine

@@ -1,27 +1,22 @@
 // Share sheets: the text of one line, from a line table.
-ghost use mathlib.Core.Path.{_≡_};
-ghost use Prim.Native.Nat.{suc, _+_, _≤_, _<_};
-ghost use lib.ListN.{length};
-ghost use Rattle·lists.specs.Lists.{WrittenAt};
-ghost use Rattle·refusals.specs.WrittenAnswer.{outcomeOfWritten};
-ghost use Rattle·table_spec.specs.Layout.{busCount};
-ghost use Rattle·table_spec.specs.Holds.{Holds};
-ghost use Rattle·share_spec.specs.Network.{denominator};
-ghost use Rattle·share_spec.specs.Formula.{numerator as numeratorOf};
-ghost use Rattle·two_way.specs.TwoWay.{networkOf};
-ghost use Rattle·sheet·specs.specs.Sheet.{sheetLine};
-ghost use Rattle·sheet·specs.specs.LineOutcomes.{textOutcome, textAfter, lineOutcome, lineAfter};
-ghost use Rattle·sheet·specs.specs.LineRoom.{longestLine};
+ghost use Rattle.std.specs.Prelude.{◌≡◌, suc, ◌+◌, ◌≤◌, ◌<◌, length};
+ghost use Rattle.lists.specs.Lists.{WrittenAt};
+ghost use Rattle.refusals.specs.WrittenAnswer.{outcome_of_written};
+ghost use Rattle.table_spec.specs.Layout.{bus_count};
+ghost use Rattle.table_spec.specs.Holds.{Holds};
+ghost use Rattle.share_spec.specs.Network.{denominator};
+ghost use Rattle.share_spec.specs.Formula.{numerator as numeratorOf};
+ghost use Rattle.two_way.specs.TwoWay.{network_of};
+ghost use Rattle.sheet.specs.Sheet.{sheet_line};
+ghost use Rattle.sheet.specs.LineOutcomes.{text_outcome, text_after, line_outcome, line_after};
+ghost use Rattle.sheet.specs.LineRoom.{longest_line};
+
 use bytes::copy;
 use fraction::reduce;
 pub use network::Refusal;
-use network::table::bus_count;
-use network::table::lines;
-use network::table::need;
-use network::table::neighbours;
+use network::table::{bus_count, lines, need, neighbours};
 pub use refusals::Written;
-use scorer::denominator;
-use scorer::share_of;
+use scorer::{denominator, share_of};
 use table_check::holds;
 use text::fill_template;
 
@@ -30,9 +25,9 @@ pub const LONGEST_LINE: usize = 55;
 
 // Writes the heading, and gives the place behind it.
 pub fn write_heading(table: &[u16], over: u64, out: &mut [u8], at: usize) -> usize
-    requires { ⌜ Holds (now table) × (over ≡ denominator (networkOf (now table))) × (at + longestLine ≤ length (now out)) ⌝ }
-    ensures { λ r. ⌜ WrittenAt (sheetLine (networkOf (now (table .entry))) 0) at (now (out .entry)) r (now (out .exit)) ⌝ }
-    ensures { λ r. ⌜ r ≤ at + longestLine ⌝ }
+    requires { Holds table.now × (over ≡ denominator (network_of table.now)) × (at + longest_line ≤ length out.old) }
+    ensures written_at { WrittenAt (sheet_line (network_of table.now) 0) at out.old result out.new }
+    ensures upper_bound { result ≤ at + longest_line }
 {
     let buses = bus_count(table) as u64;
     let lines = lines(table) as u64;
@@ -49,10 +44,10 @@ pub fn write_bus(
     out: &mut [u8],
     at: usize,
 ) -> usize
-    requires { ⌜ Holds (now table) × (bus < busCount (now table)) × (at + longestLine ≤ length (now out)) ⌝ }
-    requires { ⌜ (over ≡ denominator (networkOf (now table))) × (numerator ≡ numeratorOf (networkOf (now table)) bus) ⌝ }
-    ensures { λ r. ⌜ WrittenAt (sheetLine (networkOf (now (table .entry))) (suc bus)) at (now (out .entry)) r (now (out .exit)) ⌝ }
-    ensures { λ r. ⌜ r ≤ at + longestLine ⌝ }
+    requires holds { Holds table.now × (bus < bus_count table.now) × (at + longest_line ≤ length out.old) }
+    requires over_value { (over ≡ denominator (network_of table.now)) × (numerator ≡ numeratorOf (network_of table.now) bus) }
+    ensures written_at { WrittenAt (sheet_line (network_of table.now) (suc bus)) at out.old result out.new }
+    ensures upper_bound { result ≤ at + longest_line }
 {
     let need = need(table, bus) as u64;
     let degree = neighbours(table, bus).len() as u64;
@@ -63,9 +58,9 @@ pub fn write_bus(
 
 // Writes sheet line i at the front: line 0 is the heading, line i that of bus i - 1.
 fn write_line(table: &[u16], i: usize, out: &mut [u8]) -> usize
-    requires { ⌜ Holds (now table) × (i ≤ busCount (now table)) × (longestLine ≤ length (now out)) ⌝ }
-    ensures { λ r. ⌜ WrittenAt (sheetLine (networkOf (now (table .entry))) i) 0 (now (out .entry)) r (now (out .exit)) ⌝ }
-    ensures { λ r. ⌜ r ≤ longestLine ⌝ }
+    requires { Holds table.now × (i ≤ bus_count table.now) × (longest_line ≤ length out.old) }
+    ensures written_at { WrittenAt (sheet_line (network_of table.now) i) 0 out.old result out.new }
+    ensures upper_bound { result ≤ longest_line }
 {
     if i == 0 {
         return write_heading(table, denominator(table), out, 0);
@@ -77,8 +72,8 @@ fn write_line(table: &[u16], i: usize, out: &mut [u8]) -> usize
 
 // Copies a text to the front of a lent slice, if that is long enough.
 pub fn copy_text(text: &[u8], out: &mut [u8]) -> Written
-    ensures { λ r. ⌜ outcomeOfWritten r ≡ textOutcome (now (text .entry)) (length (now (out .entry))) ⌝ }
-    ensures { λ _. ⌜ now (out .exit) ≡ textAfter (now (text .entry)) (now (out .entry)) ⌝ }
+    ensures result_value { outcome_of_written result ≡ text_outcome text.now (length out.old) }
+    ensures out_after { out.new ≡ text_after text.now out.old }
 {
     if out.len() < text.len() {
         return Written::Refused(Refusal::TextTooShort);
@@ -88,8 +83,8 @@ pub fn copy_text(text: &[u8], out: &mut [u8]) -> Written
 
 // Writes sheet line i at the front of a lent slice. It is written aside first, since a refused call changes nothing.
 pub fn line(table: &[u16], i: usize, out: &mut [u8]) -> Written
-    ensures answer { λ r. ⌜ outcomeOfWritten r ≡ lineOutcome (networkOf (now (table .entry))) i (length (now (out .entry))) ⌝ }
-    ensures text { λ _. ⌜ now (out .exit) ≡ lineAfter (networkOf (now (table .entry))) i (now (out .entry)) ⌝ }
+    ensures answer { outcome_of_written result ≡ line_outcome (network_of table.now) i (length out.old) }
+    ensures text { out.new ≡ line_after (network_of table.now) i out.old }
 {
     if !holds(table) {
         return Written::Refused(Refusal::NoNetwork);

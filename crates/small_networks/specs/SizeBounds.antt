@@ -1,5 +1,5 @@
 -- How large a network and its table get. Definitions only.
-use Prim.Native.Nat.{ℕ, _+_, _*_}
+use Rattle.std.specs.Prelude.{ℕ, ◌+◌, ◌*◌}
 
 -- buses of a network
 abbrev pub most : ℕ

@@ -4,19 +4,15 @@
 // to 1: each remainder says how many of the buses not yet fitted are passed over to find the next. Each row of such remainders
 // is that of exactly one number of which nothing is left, as digits are, and each order has exactly one such row; so every
 // order comes once.
-ghost use Prim.Native.Nat.{_≤_, _<_};
-ghost use Rattle·small_networks·specs.specs.SizeBounds.{most};
-use crate::MOST;
-use crate::Small;
-use crate::has;
-use crate::only;
-use crate::size;
-use std::num::wrapping_add_u32;
-use std::num::wrapping_sub_u32;
+ghost use Rattle.std.specs.Prelude.{◌<◌, ◌≤◌};
+ghost use Rattle.small_networks.specs.SizeBounds.{most};
+
+use crate::{MOST, Small, has, only, size};
+use std::num::{wrapping_add_u32, wrapping_sub_u32};
 
 // Whether a bus is seen: it carries a recorder, or at least as many of its neighbours as its need do.
 fn is_seen(small: Small, fitted: u32, bus: usize) -> bool
-    requires { ⌜ bus < most ⌝ }
+    requires { bus < most }
 {
     let needs = small.needs;
     let neighbours = small.neighbours;
@@ -26,7 +22,7 @@ fn is_seen(small: Small, fitted: u32, bus: usize) -> bool
 // The value of a set of recorders: the weights of the buses that are seen, added up. No sum of weights comes near where it
 // would wrap.
 fn value(small: Small, fitted: u32) -> u32
-    requires { ⌜ small .buses ≤ most ⌝ }
+    requires { small.buses ≤ most }
 {
     let weights = small.weights;
     let mut sum = 0;
@@ -40,7 +36,7 @@ fn value(small: Small, fitted: u32) -> u32
 
 // The weights of all buses, added up.
 fn total_weight(small: Small) -> u32
-    requires { ⌜ small .buses ≤ most ⌝ }
+    requires { small.buses ≤ most }
 {
     let weights = small.weights;
     let mut sum = 0;
@@ -52,7 +48,7 @@ fn total_weight(small: Small) -> u32
 
 // The lowest bus not yet fitted, after so many of them are passed over.
 fn next(fitted: u32, passed: u32) -> usize
-    ensures { λ r. ⌜ r < most ⌝ }
+    ensures { result < most }
 {
     let mut passes = passed;
     for bus in 0..MOST {
@@ -78,7 +74,7 @@ fn has_order(buses: u32, number: u32) -> bool {
 // Fits the buses in the order of a number, adds each bus's gain to its sum, and gives the sum of all gains. A gain is how much
 // the value rises; were it to fall, the gain would wrap and be no small number.
 fn fit(small: Small, number: u32, sums: &mut [u32; MOST]) -> u32
-    requires { ⌜ small .buses ≤ most ⌝ }
+    requires { small.buses ≤ most }
 {
     let mut fitted = 0;
     let mut before = value(small, fitted);
@@ -101,6 +97,7 @@ fn fit(small: Small, number: u32, sums: &mut [u32; MOST]) -> u32
 
 // What all orders give: how many were gone through, in how many the gains do not add up to the total weight, and the sum of
 // each bus's gains.
+#[derive(Drop)]
 pub struct Gains {
     pub orders: u32,
     pub uneven: u32,
@@ -112,7 +109,7 @@ const LIMIT: u32 = 10_000;
 
 // Goes through all orders: up to the first number that is that of none.
 pub fn all_orders(small: Small) -> Gains
-    requires { ⌜ small .buses ≤ most ⌝ }
+    requires { small.buses ≤ most }
 {
     let buses = small.buses as u32;
     let total = total_weight(small);

@@ -1,12 +1,9 @@
 // Which networks are compared: all small ones with need 1 and weight 1, and some with needs, lines and weights drawn by chance
 // from a fixed seed.
-ghost use mathlib.Core.Path.{_≡_};
-ghost use Prim.Native.Nat.{_≤_, _<_};
-ghost use Rattle·small_networks·specs.specs.SizeBounds.{most};
-use crate::MOST;
-use crate::Small;
-use crate::neighbours;
-use crate::size;
+ghost use Rattle.std.specs.Prelude.{◌≡◌, ◌<◌, ◌≤◌};
+ghost use Rattle.small_networks.specs.SizeBounds.{most};
+
+use crate::{MOST, Small, neighbours, size};
 
 // Sets of buses.
 const SETS: u64 = 1 << MOST;
@@ -25,8 +22,8 @@ pub fn line_sets(buses: usize) -> u64 {
 // The network of a number below that, with need 1 and weight 1 everywhere. Its binary digits say which lines there are: one
 // digit for bus 1, two for bus 2, and so on, each for a bus of a lower number.
 pub fn numbered(buses: usize, number: u64) -> Small
-    requires { ⌜ buses ≤ most ⌝ }
-    ensures { λ r. ⌜ r .buses ≡ buses ⌝ }
+    requires { buses ≤ most }
+    ensures { result.buses ≡ buses }
 {
     let mut lower = [0u32; MOST];
     let mut rest = number;
@@ -87,7 +84,7 @@ fn lower(draws: &[u64; DRAWS]) -> [u32; MOST] {
 
 // The highest need that can be met at a bus with these neighbours: as many as they are, but 1 where there are none.
 fn highest(neighbours: u32) -> u32
-    ensures { λ r. ⌜ (1 ≤ r) × (r ≤ 32) ⌝ }
+    ensures { (1 ≤ result) × (result ≤ 32) }
 {
     let degree = size(neighbours);
     if degree == 0 {
@@ -118,8 +115,8 @@ fn weights(draws: &[u64; DRAWS]) -> [u16; MOST] {
 }
 
 pub fn chosen(buses: usize, draws: &[u64; DRAWS]) -> Small
-    requires { ⌜ buses ≤ most ⌝ }
-    ensures { λ r. ⌜ r .buses ≡ buses ⌝ }
+    requires { buses ≤ most }
+    ensures { result.buses ≡ buses }
 {
     let lower = lower(draws);
     let neighbours = neighbours(&lower, buses);
@@ -135,8 +132,8 @@ pub fn chosen(buses: usize, draws: &[u64; DRAWS]) -> Small
 
 // The same network with a need that cannot be met: at one bus, one above the highest that can.
 pub fn raised(small: Small, bus: usize) -> Small
-    requires { ⌜ bus < most ⌝ }
-    ensures { λ r. ⌜ r .buses ≡ small .buses ⌝ }
+    requires { bus < most }
+    ensures { result.buses ≡ small.buses }
 {
     let neighbours = small.neighbours;
     let weights = small.weights;
@@ -152,7 +149,7 @@ pub fn raised(small: Small, bus: usize) -> Small
 
 // The same network with other weights.
 fn weighted(small: Small, weights: [u16; MOST]) -> Small
-    ensures { λ r. ⌜ r .buses ≡ small .buses ⌝ }
+    ensures { result.buses ≡ small.buses }
 {
     let needs = small.needs;
     let neighbours = small.neighbours;
@@ -166,15 +163,15 @@ fn weighted(small: Small, weights: [u16; MOST]) -> Small
 
 // The same network with weight 1 everywhere.
 pub fn unweighted(small: Small) -> Small
-    ensures { λ r. ⌜ r .buses ≡ small .buses ⌝ }
+    ensures { result.buses ≡ small.buses }
 {
     weighted(small, [1u16; MOST])
 }
 
 // The same network with another weight at one bus.
 pub fn reweighted(small: Small, bus: usize, weight: u16) -> Small
-    requires { ⌜ bus < most ⌝ }
-    ensures { λ r. ⌜ r .buses ≡ small .buses ⌝ }
+    requires { bus < most }
+    ensures { result.buses ≡ small.buses }
 {
     let mut weights = small.weights;
     weights[bus] = weight;

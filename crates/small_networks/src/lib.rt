@@ -1,7 +1,7 @@
 // Networks of up to seven buses: which are compared, their line tables, and the average over all orders of fitting. This crate
 // knows nothing of the scorer. A set of buses is a number: bus b is in it if the binary digit at place b is 1.
-ghost use Prim.Native.Nat.{_≤_, _<_};
-ghost use Rattle·small_networks·specs.specs.SizeBounds.{most};
+ghost use Rattle.std.specs.Prelude.{◌<◌, ◌≤◌};
+ghost use Rattle.small_networks.specs.SizeBounds.{most};
 
 pub mod average;
 pub mod choice;
@@ -11,6 +11,7 @@ pub mod table;
 pub const MOST: usize = 7;
 
 // A network: how many buses, the need and the weight of each, and the set of the neighbours of each.
+#[derive(Drop)]
 pub struct Small {
     pub buses: usize,
     pub needs: [u8; MOST],
@@ -20,13 +21,13 @@ pub struct Small {
 
 // The set of one bus.
 pub fn only(bus: usize) -> u32
-    requires { ⌜ bus < most ⌝ }
+    requires { bus < most }
 {
     1 << bus
 }
 
 pub fn has(set: u32, bus: usize) -> bool
-    requires { ⌜ bus < most ⌝ }
+    requires { bus < most }
 {
     set & only(bus) != 0
 }
@@ -34,7 +35,7 @@ pub fn has(set: u32, bus: usize) -> bool
 // The neighbours of each bus, where each bus has the set of those of lower numbers that it is joined to. What the set has of
 // higher numbers is not looked at.
 pub fn neighbours(lower: &[u32; MOST], buses: usize) -> [u32; MOST]
-    requires { ⌜ buses ≤ most ⌝ }
+    requires { buses ≤ most }
 {
     let mut neighbours = [0u32; MOST];
     for bus in 0..buses {
@@ -50,7 +51,7 @@ pub fn neighbours(lower: &[u32; MOST], buses: usize) -> [u32; MOST]
 
 // How many buses a set has.
 pub fn size(set: u32) -> u32
-    ensures { λ r. ⌜ r ≤ 32 ⌝ }
+    ensures { result ≤ 32 }
 {
     u32::count_ones(set)
 }

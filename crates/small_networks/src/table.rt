@@ -1,16 +1,15 @@
 // The line table of a network.
-ghost use Prim.Native.Nat.{_+_, _≤_, _<_};
-ghost use Rattle·small_networks·specs.specs.SizeBounds.{most, entries};
-use crate::MOST;
-use crate::Small;
-use crate::has;
+ghost use Rattle.std.specs.Prelude.{◌+◌, ◌<◌, ◌≤◌};
+ghost use Rattle.small_networks.specs.SizeBounds.{most, entries};
+
+use crate::{MOST, Small, has};
 
 // Entries for the bus count, the needs, the weights, the row starts, and as many neighbours of each bus as there are buses.
 pub const ENTRIES: usize = 1 + MOST + MOST + (MOST + 1) + MOST * MOST;
 
 // Lays the bus count and the needs.
 fn lay_needs(table: &mut [u16; ENTRIES], small: Small)
-    requires { ⌜ small .buses ≤ most ⌝ }
+    requires { small.buses ≤ most }
 {
     table[0] = small.buses as u16;
     let needs = small.needs;
@@ -21,7 +20,7 @@ fn lay_needs(table: &mut [u16; ENTRIES], small: Small)
 
 // Lays the weights, behind the needs.
 fn lay_weights(table: &mut [u16; ENTRIES], small: Small)
-    requires { ⌜ small .buses ≤ most ⌝ }
+    requires { small.buses ≤ most }
 {
     let first = 1 + small.buses;
     let weights = small.weights;
@@ -32,8 +31,8 @@ fn lay_weights(table: &mut [u16; ENTRIES], small: Small)
 
 // Lays the neighbours of a bus from a place on, and gives the place behind them.
 fn lay_row(table: &mut [u16; ENTRIES], small: Small, bus: usize, start: usize) -> usize
-    requires { ⌜ (small .buses ≤ most) × (bus < most) × (start + most ≤ entries) ⌝ }
-    ensures { λ r. ⌜ (start ≤ r) × (r ≤ start + most) ⌝ }
+    requires { (small.buses ≤ most) × (bus < most) × (start + most ≤ entries) }
+    ensures { (start ≤ result) × (result ≤ start + most) }
 {
     let neighbours = small.neighbours;
     let mut place = start;
@@ -48,7 +47,7 @@ fn lay_row(table: &mut [u16; ENTRIES], small: Small, bus: usize, start: usize) -
 
 // Lays the row starts, of which the first stays 0, and the rows.
 fn lay_rows(table: &mut [u16; ENTRIES], small: Small)
-    requires { ⌜ small .buses ≤ most ⌝ }
+    requires { small.buses ≤ most }
 {
     let starts = 1 + 2 * small.buses;
     let links = starts + small.buses + 1;
@@ -60,7 +59,7 @@ fn lay_rows(table: &mut [u16; ENTRIES], small: Small)
 }
 
 pub fn table(small: Small) -> [u16; ENTRIES]
-    requires { ⌜ small .buses ≤ most ⌝ }
+    requires { small.buses ≤ most }
 {
     let mut table = [0u16; ENTRIES];
     lay_needs(&mut table, small);

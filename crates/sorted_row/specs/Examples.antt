@@ -1,7 +1,6 @@
 -- Rows with a number inserted, computed.
-use mathlib.Core.List.{[], _∷_, map}
-use mathlib.Core.Path.{_≡_, refl}
-use Rattle·sorted_row·specs.specs.Insertion.{insert}
+use Rattle.std.specs.Prelude.{[], ◌∷◌, map, ◌≡◌, refl}
+use Rattle.sorted_row.specs.Insertion.{insert}
 
 -- before, between, behind, and one that is there
 inserted :

@@ -2,4 +2,3 @@
 pub mod Insertion
 pub mod Shifting
 pub mod Examples
-pub mod InsertionLaws

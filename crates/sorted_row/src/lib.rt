@@ -1,12 +1,11 @@
 // One row of ascending numbers in a slice, and a number inserted into it. Nothing here knows of a network.
-ghost use mathlib.Core.Path.{_≡_};
-ghost use Prim.Native.Nat.{_≤_, _<_};
-ghost use lib.ListN.{length, take};
-ghost use Rattle·lists.specs.Lists.{Ascending, put};
-ghost use Rattle·sorted_row·specs.specs.Insertion.{isAdded, RowAfter};
-ghost use Rattle·sorted_row·specs.specs.Shifting.{Place, insertAt};
+ghost use Rattle.std.specs.Prelude.{◌≡◌, ◌≤◌, ◌<◌, length, take};
+ghost use Rattle.lists.specs.Lists.{Ascending, put};
+ghost use Rattle.sorted_row.specs.Insertion.{is_added, RowAfter};
+ghost use Rattle.sorted_row.specs.Shifting.{Place, insert_at};
 
 // What inserting a number into a row did.
+#[derive(Drop)]
 pub enum Inserted {
     // The number stands in the row now.
     Added,
@@ -19,7 +18,7 @@ pub enum Inserted {
 impl Inserted {
     // Whether the number was added.
     pub fn added(self) -> bool
-        ensures { λ b. ⌜ b ≡ isAdded self ⌝ }
+        ensures { result ≡ is_added self }
     {
         match self {
             Inserted::Added => true,
@@ -31,8 +30,8 @@ impl Inserted {
 
 // How many of a row's first `count` numbers, which ascend, are below x. Looks from the end, where x mostly belongs.
 fn insertion_place(row: &[u16], count: usize, x: u16) -> usize
-    requires { ⌜ (count ≤ length (now row)) × Ascending (take count (now row)) ⌝ }
-    ensures { λ r. ⌜ Place x (take count (now (row .entry))) r ⌝ }
+    requires { (count ≤ length row.now) × Ascending (take count row.now) }
+    ensures { Place x (take count row.now) result }
 {
     let mut p = count;
     while 0 < p {
@@ -47,8 +46,8 @@ fn insertion_place(row: &[u16], count: usize, x: u16) -> usize
 
 // Moves the numbers from place p up to `count` one slot on, and writes x at p.
 fn shift_in(row: &mut [u16], p: usize, count: usize, x: u16)
-    requires { ⌜ (p ≤ count) × (count < length (now row)) ⌝ }
-    ensures { λ _. ⌜ now (row .exit) ≡ put (now (row .entry)) 0 (insertAt (take count (now (row .entry))) p x) ⌝ }
+    requires { (p ≤ count) × (count < length row.old) }
+    ensures { row.new ≡ put row.old 0 (insert_at (take count row.old) p x) }
 {
     let mut j = count;
     while p < j {
@@ -61,8 +60,8 @@ fn shift_in(row: &mut [u16], p: usize, count: usize, x: u16)
 
 // Inserts x into a row whose first `count` slots are taken by numbers that ascend.
 pub fn insert(row: &mut [u16], count: usize, x: u16) -> Inserted
-    requires { ⌜ (count ≤ length (now row)) × Ascending (take count (now row)) ⌝ }
-    ensures { λ r. ⌜ RowAfter r x (take count (now (row .entry))) (now (row .entry)) (now (row .exit)) ⌝ }
+    requires { (count ≤ length row.old) × Ascending (take count row.old) }
+    ensures { RowAfter result x (take count row.old) row.old row.new }
 {
     let p = insertion_place(row, count, x);
     if p < count {

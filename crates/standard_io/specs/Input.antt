@@ -1,7 +1,7 @@
 -- What a reading of the input answers. Definitions only.
-use Prim.Native.Nat.{ℕ, _≤_}
-use Rattle·standard_io·specs.specs.declared.Input.{Input}
-use Rattle·standard_io·specs.specs.declared.Input.the-variants.{Bytes, Failed}
+use Rattle.std.specs.Prelude.{ℕ, ◌≤◌}
+use Rattle.standard_io.specs.declared.Input.{Input}
+use Rattle.standard_io.specs.declared.Input.TheVariants.{Bytes, Failed}
 
 -- the bytes read, if there are any, are no more than a buffer has
 abbrev pub Within : Input → ℕ → Type 0

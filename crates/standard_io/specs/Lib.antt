@@ -1,3 +1,2 @@
 -- What the reading of the input promises: definitions, and a law.
 pub mod Input
-pub mod BytesRead

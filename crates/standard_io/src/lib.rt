@@ -1,11 +1,11 @@
 // What programs share: standard input read into a buffer, a text printed, and what is said on standard error, after the program's name.
-ghost use lib.ListN.{length};
-ghost use Rattle·standard_io·specs.specs.Input.{Within};
-use libc::STDERR_FILENO;
-use libc::STDIN_FILENO;
-use libc::STDOUT_FILENO;
+ghost use Rattle.std.specs.Prelude.{length};
+ghost use Rattle.standard_io.specs.Input.{Within};
+
+use libc::{STDERR_FILENO, STDIN_FILENO, STDOUT_FILENO};
 
 // How many bytes of standard input were read, or that a read failed.
+#[derive(Drop)]
 pub enum Input {
     Bytes(usize),
     Failed,
@@ -13,7 +13,7 @@ pub enum Input {
 
 // One read, of at most as many bytes as the buffer has; 0 say that the input has ended.
 fn read_some(buffer: &mut [u8]) -> Input
-    ensures { λ r. ⌜ Within r (length (now (buffer .exit))) ⌝ }
+    ensures { Within result (length buffer.new) }
 {
     let got = libc::read(STDIN_FILENO, buffer);
     if got < 0 {
@@ -24,7 +24,7 @@ fn read_some(buffer: &mut [u8]) -> Input
 
 // Reads until the buffer is full, the input ends or a read fails. The kit's `read_full` does not tell the last two apart.
 pub fn read_input(buffer: &mut [u8]) -> Input
-    ensures { λ r. ⌜ Within r (length (now (buffer .exit))) ⌝ }
+    ensures { Within result (length buffer.new) }
 {
     let mut bytes = 0;
     while bytes < buffer.len() {

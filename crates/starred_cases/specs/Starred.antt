@@ -1,13 +1,12 @@
 -- The scope's starred bench cases in one table: what each asks, and what is due.
 -- Definitions only.
-use mathlib.Core.List.{List, [], _∷_, _++_, flatMap}
-use Prim.Native.Nat.{ℕ}
-use lib.ListN.{length, take, replicate}
-use Rattle·refusals.specs.Outcomes.{Outcome, gives, refuses}
-use Rattle·fraction.specs.Cancel.{cancelOutcome}
-use Rattle·read_spec.specs.ReadOutcome.{readOutcome, tableAfter}
-use Rattle·two_way.specs.TwoWay.{networkOf}
-use Rattle·share_spec.specs.ShareOutcomes.{sharesOutcome, numeratorsAfter}
+use mathlib.Core.List.{List, [], ◌∷◌, ◌++◌, flat_map}
+use Rattle.std.specs.Prelude.{ℕ, length, take, replicate}
+use Rattle.refusals.specs.Outcomes.{Outcome, gives, refuses}
+use Rattle.fraction.specs.Cancel.{cancel_outcome}
+use Rattle.read_spec.specs.ReadOutcome.{read_outcome, table_after}
+use Rattle.two_way.specs.TwoWay.{network_of}
+use Rattle.share_spec.specs.ShareOutcomes.{shares_outcome, numerators_after}
 
 -- ---- what a case asks, and what the definitions of the calls answer
 
@@ -20,36 +19,36 @@ pub data Asked : Type 0 where
 abbrev pub Answer : Type 0
 Answer = Outcome (List ℕ × ℕ)
 
-infix 45 _over_
-abbrev pub _over_ : List ℕ → ℕ → Answer
+infix 45 ◌over◌
+abbrev pub ◌over◌ : List ℕ → ℕ → Answer
 numerators over L = gives (numerators, L)
 
 -- what the first call gives goes to the next; where the first is refused, that is the answer
-abbrev pub andThen : {A B : Type 0} → Outcome A → (A → Outcome B) → Outcome B
-andThen (gives values) next = next values
-andThen (refuses number) next = refuses number
+abbrev pub and_then : {A B : Type 0} → Outcome A → (A → Outcome B) → Outcome B
+and_then (gives values) next = next values
+and_then (refuses number) next = refuses number
 
 -- what is lent, enough for the largest of these networks: three buses, three lines
-unfoldable pub lentTable : List ℕ
-lentTable = replicate 17 0
+unfoldable pub lent_table : List ℕ
+lent_table = replicate 17 0
 
-unfoldable pub lentNumerators : List ℕ
-lentNumerators = replicate 3 0
+unfoldable pub lent_numerators : List ℕ
+lent_numerators = replicate 3 0
 
 -- Shares of a table with n buses: the n numerators that it stores, over the L that it gives
-unfoldable pub sharesOf : List ℕ → ℕ → Answer
-sharesOf t n = andThen (sharesOutcome (networkOf t) (length lentNumerators)) (λ L. take n (numeratorsAfter (networkOf t) lentNumerators) over L)
+unfoldable pub shares_of : List ℕ → ℕ → Answer
+shares_of t n = and_then (shares_outcome (network_of t) (length lent_numerators)) (λ L. take n (numerators_after (network_of t) lent_numerators) over L)
 
 -- Read and then Shares; or Cancel
 unfoldable pub answered : Asked → Answer
-answered (scored f) = andThen (readOutcome f (length lentTable)) (λ c. sharesOf (tableAfter f lentTable) (c .buses))
-answered (cancelled a b) = andThen (cancelOutcome a b) (λ p. (p .0 ∷ []) over p .1)
+answered (scored f) = and_then (read_outcome f (length lent_table)) (λ c. shares_of (table_after f lent_table) c.buses)
+answered (cancelled a b) = and_then (cancel_outcome a b) (λ p. (p.0 ∷ []) over p.1)
 
 -- ---- the files
 
 -- a file of fewer than 256 buses and lines: the needs, bus 0 first, and the two ends of each line
 unfoldable pub file : List ℕ → List (ℕ × ℕ) → List ℕ
-file needs lines = (length needs ∷ 0 ∷ needs) ++ (length lines ∷ 0 ∷ flatMap (λ l. l .0 ∷ 0 ∷ l .1 ∷ 0 ∷ []) lines)
+file needs lines = (length needs ∷ 0 ∷ needs) ++ (length lines ∷ 0 ∷ flat_map (λ l. l.0 ∷ 0 ∷ l.1 ∷ 0 ∷ []) lines)
 
 -- Path, with need k at bus 1
 unfoldable pub path : ℕ → List ℕ
@@ -66,8 +65,8 @@ pub record Case : Type 0 where
   pub asked : Asked
   pub due : Answer
 
-infix 40 _is_
-abbrev pub _is_ : Asked → Answer → Case
+infix 40 ◌is◌
+abbrev pub ◌is◌ : Asked → Answer → Case
 a is d = record { asked = a; due = d }
 
 unfoldable pub starred : List Case

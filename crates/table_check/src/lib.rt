@@ -1,31 +1,21 @@
 // The test of a line table: whether a slice holds a network. Row starts begin at `from`.
-ghost use mathlib.Core.Bool.{_&&_};
-ghost use mathlib.Core.Path.{_≡_};
-ghost use Prim.Native.Nat.{_^_, _≤_, _<_};
-ghost use lib.ListN.{length};
-ghost use Rattle·table_spec.specs.Layout.{rowSize};
-ghost use Rattle·table_spec.specs.Holds.{complete, needsInRange, weightsInRange, twoWay, needsCanBeMet, holds, Complete, Steps};
+ghost use Rattle.std.specs.Prelude.{◌&&◌, ◌≡◌, ◌^◌, ◌≤◌, ◌<◌, length};
+ghost use Rattle.table_spec.specs.Layout.{row_size};
+ghost use Rattle.table_spec.specs.Holds.{complete, needs_in_range, weights_in_range, two_way, needs_can_be_met, holds, Complete, Steps};
 
 pub mod mirrors;
 pub mod rows;
 
 use mirrors::mirrored;
-use network::Network;
-use network::can_be_met;
 use network::rows::entry;
-use network::table::bus_count;
-use network::table::needs;
-use network::table::neighbour_numbers;
-use network::table::starts;
-use network::table::starts_at;
-use network::table::weights;
-use network::within;
+use network::table::{bus_count, needs, neighbour_numbers, starts, starts_at, weights};
+use network::{Network, can_be_met, within};
 use rows::sound_rows;
 
 // Whether the slice has all entries of its table, and no more buses than a network may have.
 fn complete(table: &[u16], from: usize) -> bool
-    requires { ⌜ (1 ≤ length (now table)) × (from < 2 ^ 32) ⌝ }
-    ensures { λ b. ⌜ b ≡ complete from (now (table .entry)) ⌝ }
+    requires { (1 ≤ length table.now) × (from < 2 ^ 32) }
+    ensures { result ≡ complete from table.now }
 {
     let n = bus_count(table);
     if !within(1, Network::BUSES, n) {
@@ -39,8 +29,8 @@ fn complete(table: &[u16], from: usize) -> bool
 
 // Whether the rows are sound, and every neighbour is mirrored.
 fn two_way(table: &[u16], from: usize) -> bool
-    requires { ⌜ Complete from (now table) ⌝ }
-    ensures { λ b. ⌜ b ≡ twoWay from (now (table .entry)) ⌝ }
+    requires { Complete from table.now }
+    ensures { result ≡ two_way from table.now }
 {
     let n = bus_count(table);
     let starts = starts(table, from);
@@ -53,8 +43,8 @@ fn two_way(table: &[u16], from: usize) -> bool
 
 // Whether every need and every weight is one that a bus may have, and each need can be met: the degree of a bus is how far its row start is from the next.
 fn valid_buses(needs: &[u16], weights: &[u16], starts: &[u16]) -> bool
-    requires { ⌜ (length (now needs) ≡ length (now weights)) × (length (now needs) < length (now starts)) × Steps (length (now needs)) (now starts) ⌝ }
-    ensures { λ b. ⌜ b ≡ (needsInRange (now (needs .entry)) && weightsInRange (now (weights .entry)) && needsCanBeMet (length (now (needs .entry))) (now (needs .entry)) (rowSize (now (starts .entry)))) ⌝ }
+    requires { (length needs.now ≡ length weights.now) × (length needs.now < length starts.now) × Steps (length needs.now) starts.now }
+    ensures { result ≡ (needs_in_range needs.now && weights_in_range weights.now && needs_can_be_met (length needs.now) needs.now (row_size starts.now)) }
 {
     let mut bus = 0;
     while bus < needs.len() {
@@ -77,7 +67,7 @@ fn valid_buses(needs: &[u16], weights: &[u16], starts: &[u16]) -> bool
 
 // Whether the slice holds a network.
 pub fn holds(table: &[u16]) -> bool
-    ensures { λ b. ⌜ b ≡ holds (now (table .entry)) ⌝ }
+    ensures { result ≡ holds table.now }
 {
     if table.len() < 1 {
         return false;

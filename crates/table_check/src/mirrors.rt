@@ -1,17 +1,15 @@
 // The mirror test: whether each bus stands in the rows of its neighbours. Each row has a cursor, at the first entry that no row before has asked for.
-ghost use mathlib.Core.Path.{_≡_};
-ghost use Prim.Native.Nat.{_≤_};
-ghost use lib.ListN.{length};
-ghost use Rattle·table_spec.specs.Limits.{maxBuses};
-ghost use Rattle·table_spec.specs.Holds.{mirrored, Spans, ValidRow, SoundRows};
-ghost use Rattle·table_check·specs.specs.Cursors.{isAt, Matched};
+ghost use Rattle.std.specs.Prelude.{◌≡◌, ◌≤◌, length};
+ghost use Rattle.table_spec.specs.Limits.{max_buses};
+ghost use Rattle.table_spec.specs.Holds.{mirrored, Spans, ValidRow, SoundRows};
+ghost use Rattle.table_check.specs.Cursors.{is_at, Matched};
+
 use network::Network;
-use network::rows::entry;
-use network::rows::row_at;
+use network::rows::{entry, row_at};
 
 // Whether the row has an entry at the cursor, and it is the bus.
 fn is_at(row: &[u16], cursor: u8, bus: usize) -> bool
-    ensures { λ b. ⌜ b ≡ isAt (now (row .entry)) cursor bus ⌝ }
+    ensures { result ≡ is_at row.now cursor bus }
 {
     let k = cursor as usize;
     if row.len() <= k {
@@ -29,9 +27,9 @@ fn matched(
     row: &[u16],
     cursors: &mut [u8; Network::BUSES],
 ) -> bool
-    requires { ⌜ Spans n (now starts) (now numbers) × (n ≤ maxBuses) × ValidRow n bus (now row) ⌝ }
-    requires { ⌜ length (now cursors) ≡ maxBuses ⌝ }
-    ensures { λ b. ⌜ Matched (now (starts .entry)) (now (numbers .entry)) bus (now (row .entry)) (now (cursors .entry)) b (now (cursors .exit)) ⌝ }
+    requires spans { Spans n starts.now numbers.now × (n ≤ max_buses) × ValidRow n bus row.now }
+    requires cursors_len { length cursors.old ≡ max_buses }
+    ensures { Matched starts.now numbers.now bus row.now cursors.old result cursors.new }
 {
     let mut k = 0;
     while k < row.len() {
@@ -48,8 +46,8 @@ fn matched(
 
 // Whether every neighbour is mirrored. Rows ascend, so that when a bus is reached, the cursor of each neighbour's row stands at it.
 pub fn mirrored(starts: &[u16], numbers: &[u16], n: usize) -> bool
-    requires { ⌜ SoundRows n (now starts) (now numbers) × (n ≤ maxBuses) ⌝ }
-    ensures { λ b. ⌜ b ≡ mirrored n (now (starts .entry)) (now (numbers .entry)) ⌝ }
+    requires { SoundRows n starts.now numbers.now × (n ≤ max_buses) }
+    ensures { result ≡ mirrored n starts.now numbers.now }
 {
     let mut cursors = [0u8; Network::BUSES];
     let mut bus = 0;

@@ -1,18 +1,15 @@
 // The test of rows: whether n rows of neighbour numbers are as the rows of a line table must be, but for their mirrors.
-ghost use mathlib.Core.Path.{_≡_};
-ghost use mathlib.Core.Bool.{_&&_};
-ghost use Prim.Native.Nat.{_≤_, _<_};
-ghost use lib.ListN.{length};
-ghost use Rattle·lists.specs.Lists.{at};
-ghost use Rattle·table_spec.specs.Holds.{neverFall, shortRows, validRow, validRows, soundRows, Spans};
+ghost use Rattle.std.specs.Prelude.{◌≡◌, ◌&&◌, ◌≤◌, ◌<◌, length};
+ghost use Rattle.lists.specs.Lists.{at};
+ghost use Rattle.table_spec.specs.Holds.{never_fall, short_rows, valid_row, valid_rows, sound_rows, Spans};
+
 use network::Network;
-use network::rows::entry;
-use network::rows::row_at;
+use network::rows::{entry, row_at};
 
 // Whether none of n rows ends before it starts, or is too long.
 fn spans(starts: &[u16], n: usize) -> bool
-    requires { ⌜ n < length (now starts) ⌝ }
-    ensures { λ b. ⌜ b ≡ (neverFall n (now (starts .entry)) && shortRows n (now (starts .entry))) ⌝ }
+    requires { n < length starts.now }
+    ensures { result ≡ (never_fall n starts.now && short_rows n starts.now) }
 {
     let mut bus = 0;
     while bus < n {
@@ -31,7 +28,7 @@ fn spans(starts: &[u16], n: usize) -> bool
 
 // Whether this may be the row of a bus among n: its numbers are below n, never the bus, and ascend.
 fn valid_row(row: &[u16], n: usize, bus: usize) -> bool
-    ensures { λ b. ⌜ b ≡ validRow n bus (now (row .entry)) ⌝ }
+    ensures { result ≡ valid_row n bus row.now }
 {
     let mut least = 0;
     let mut k = 0;
@@ -54,8 +51,8 @@ fn valid_row(row: &[u16], n: usize, bus: usize) -> bool
 
 // Whether each of n rows is valid.
 fn valid_rows(starts: &[u16], numbers: &[u16], n: usize) -> bool
-    requires { ⌜ Spans n (now starts) (now numbers) ⌝ }
-    ensures { λ b. ⌜ b ≡ validRows n (now (starts .entry)) (now (numbers .entry)) ⌝ }
+    requires { Spans n starts.now numbers.now }
+    ensures { result ≡ valid_rows n starts.now numbers.now }
 {
     let mut bus = 0;
     while bus < n {
@@ -69,8 +66,8 @@ fn valid_rows(starts: &[u16], numbers: &[u16], n: usize) -> bool
 
 // Whether n rows are as the rows of a line table must be, but for their mirrors.
 pub fn sound_rows(starts: &[u16], numbers: &[u16], n: usize) -> bool
-    requires { ⌜ (n < length (now starts)) × (at (now starts) n ≤ length (now numbers)) ⌝ }
-    ensures { λ b. ⌜ b ≡ soundRows n (now (starts .entry)) (now (numbers .entry)) ⌝ }
+    requires { (n < length starts.now) × (at starts.now n ≤ length numbers.now) }
+    ensures { result ≡ sound_rows n starts.now numbers.now }
 {
     if entry(starts, 0) != 0 {
         return false;

@@ -5,12 +5,3 @@ pub mod Lines
 pub mod Holds
 pub mod TableOutcomes
 pub mod Examples
-pub mod Rows
-pub mod Facts
-pub mod TableCauses
-pub mod RowPlaces
-pub mod LineCount
-pub mod LinePairs
-pub mod BeyondTable
-pub mod Laid
-pub mod LaidAgain

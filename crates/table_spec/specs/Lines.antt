@@ -1,36 +1,33 @@
 -- The lines of a network by number: its pairs of neighbours, each once, its lower bus first, ascending by first bus, then by second.
 -- Definitions only.
-use mathlib.Core.Bool.{Bool, _&&_}
-use mathlib.Core.List.{List}
-use Prim.Native.Nat.{ℕ, _+_, _*_, _/_, _%_}
-use lib.Dec.{ltb}
-use Rattle·lists.specs.Lists.{has, at}
-use Rattle·lists.specs.Below.{listBelow}
-use Rattle·table_spec·specs.specs.Limits.{maxBuses}
-use Rattle·table_spec·specs.specs.Layout.{busCount, row}
+use Rattle.std.specs.Prelude.{Bool, ◌&&◌, List, ℕ, ◌+◌, ◌*◌, ◌/◌, ◌%◌, ltb}
+use Rattle.lists.specs.Lists.{has, at}
+use Rattle.lists.specs.Below.{list_below}
+use Rattle.table_spec.specs.Limits.{max_buses}
+use Rattle.table_spec.specs.Layout.{bus_count, row}
 
 -- a pair of buses as one number: pairs ascend by first bus, then by second, as these numbers do
-abbrev pub pairNumber : ℕ → ℕ → ℕ
-pairNumber a b = a * maxBuses + b
+abbrev pub pair_number : ℕ → ℕ → ℕ
+pair_number a b = a * max_buses + b
 
 -- is this the number of a pair of neighbours, by these rows, its lower bus first?
-abbrev pub isPair : (ℕ → List ℕ) → ℕ → Bool
-isPair rows c = ltb (c / maxBuses) (c % maxBuses) && has (c % maxBuses) (rows (c / maxBuses))
+abbrev pub is_pair : (ℕ → List ℕ) → ℕ → Bool
+is_pair rows c = ltb (c / max_buses) (c % max_buses) && has (c % max_buses) (rows (c / max_buses))
 
 -- the numbers of all pairs of n buses, ascending
 unfoldable pub pairs : ℕ → (ℕ → List ℕ) → List ℕ
-pairs n rows = listBelow (n * maxBuses) (isPair rows)
+pairs n rows = list_below (n * max_buses) (is_pair rows)
 
 -- pair k of them, from 0: its two buses
-abbrev pub lowerBus : ℕ → (ℕ → List ℕ) → ℕ → ℕ
-lowerBus n rows k = at (pairs n rows) k / maxBuses
+abbrev pub lower_bus : ℕ → (ℕ → List ℕ) → ℕ → ℕ
+lower_bus n rows k = at (pairs n rows) k / max_buses
 
-abbrev pub upperBus : ℕ → (ℕ → List ℕ) → ℕ → ℕ
-upperBus n rows k = at (pairs n rows) k % maxBuses
+abbrev pub upper_bus : ℕ → (ℕ → List ℕ) → ℕ → ℕ
+upper_bus n rows k = at (pairs n rows) k % max_buses
 
 -- line k of a table's network: its two ends
-abbrev pub lowerEnd : List ℕ → ℕ → ℕ
-lowerEnd t k = lowerBus (busCount t) (row t) k
+abbrev pub lower_end : List ℕ → ℕ → ℕ
+lower_end t k = lower_bus (bus_count t) (row t) k
 
-abbrev pub upperEnd : List ℕ → ℕ → ℕ
-upperEnd t k = upperBus (busCount t) (row t) k
+abbrev pub upper_end : List ℕ → ℕ → ℕ
+upper_end t k = upper_bus (bus_count t) (row t) k

@@ -1,9 +1,7 @@
 -- Numbers and a template, computed.
-use mathlib.Core.List.{[], _∷_, map}
-use mathlib.Core.Path.{_≡_, refl}
-use lib.IntN.{pos, negsuc}
-use Rattle·lists.specs.Lists.{at}
-use Rattle·text·specs.specs.Text.{decimal, signedDecimal, filled}
+use Rattle.std.specs.Prelude.{[], ◌∷◌, map, ◌≡◌, refl, pos, negsuc}
+use Rattle.lists.specs.Lists.{at}
+use Rattle.text.specs.Text.{decimal, signed_decimal, filled}
 
 -- `0`, `7`, `10`, `405` and `61796724990`
 numbers :
@@ -14,9 +12,9 @@ numbers = refl
 
 -- `0`, `7`, `-1` and `-405`
 signed-numbers :
-    map signedDecimal (pos 0 ∷ pos 7 ∷ negsuc 0 ∷ negsuc 404 ∷ [])
+    map signed_decimal (pos 0 ∷ pos 7 ∷ negsuc 0 ∷ negsuc 404 ∷ [])
     ≡ (48 ∷ []) ∷ (55 ∷ []) ∷ (45 ∷ 49 ∷ []) ∷ (45 ∷ 52 ∷ 48 ∷ 53 ∷ []) ∷ []
-unfolding signedDecimal decimal
+unfolding signed_decimal decimal
 signed-numbers = refl
 
 -- `#/#` with 4 and 3 is `4/3`, and `#,` with 12 is `12,`

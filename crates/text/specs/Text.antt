@@ -1,12 +1,7 @@
 -- Text in ASCII: numbers in decimal, with a minus sign if below zero, and templates in which each `#` stands for a number.
 -- Definitions only.
-use mathlib.Core.Bool.{Bool, true, false, cond}
-use mathlib.Core.List.{List, [], _∷_, _++_}
-use Prim.Native.Nat.{ℕ, zero, suc, _+_, _-_, _*_, _/_, _%_}
-use lib.Dec.{ltb, eqb}
-use lib.IntN.{ℤ, pos, negsuc}
-use lib.ListN.{drop}
-use Rattle·lists.specs.Lists.{indicator, at}
+use Rattle.std.specs.Prelude.{Bool, true, false, cond, List, [], ◌∷◌, ◌++◌, ℕ, zero, suc, ◌+◌, ◌-◌, ◌*◌, ◌/◌, ◌%◌, ltb, eqb, ℤ, pos, negsuc, drop}
+use Rattle.lists.specs.Lists.{indicator, at}
 
 -- ---- numbers
 
@@ -28,14 +23,14 @@ abbrev pub minus : ℕ
 minus = 45
 
 -- a signed number in decimal; one below zero has a minus sign in front
-unfoldable pub signedDecimal : ℤ → List ℕ
-signedDecimal (pos n) = decimal n
-signedDecimal (negsuc n) = minus ∷ decimal (suc n)
+unfoldable pub signed_decimal : ℤ → List ℕ
+signed_decimal (pos n) = decimal n
+signed_decimal (negsuc n) = minus ∷ decimal (suc n)
 
 -- the value of digits that stand behind those of a
-abbrev pub digitsValue : ℕ → List ℕ → ℕ
-digitsValue a [] = a
-digitsValue a (b ∷ l) = digitsValue (a * 10 + (b - 48)) l
+abbrev pub digits_value : ℕ → List ℕ → ℕ
+digits_value a [] = a
+digits_value a (b ∷ l) = digits_value (a * 10 + (b - 48)) l
 
 -- ---- templates
 

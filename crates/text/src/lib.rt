@@ -1,15 +1,14 @@
 // Text in ASCII, written into a lent slice: numbers in decimal, with a minus sign if below zero, and templates in which each `#` stands for a number.
-ghost use Prim.Native.Nat.{_+_, _≤_};
-ghost use lib.ListN.{length};
-ghost use Rattle·lists.specs.Lists.{count, WrittenAt};
-ghost use Rattle·text·specs.specs.Text.{decimal, signedDecimal, sign, filled};
-use signed::is_negative;
-use signed::magnitude;
+ghost use Rattle.std.specs.Prelude.{◌+◌, ◌≤◌, length};
+ghost use Rattle.lists.specs.Lists.{count, WrittenAt};
+ghost use Rattle.text.specs.Text.{decimal, signed_decimal, sign, filled};
+
+use signed::{is_negative, magnitude};
 
 // Writes a number, and gives the place behind it.
 fn decimal(value: u64, out: &mut [u8], at: usize) -> usize
-    requires { ⌜ at + length (decimal value) ≤ length (now out) ⌝ }
-    ensures { λ r. ⌜ WrittenAt (decimal value) at (now (out .entry)) r (now (out .exit)) ⌝ }
+    requires { at + length (decimal value) ≤ length out.old }
+    ensures { WrittenAt (decimal value) at out.old result out.new }
 {
     if value < 10 {
         out[at] = b'0' + value as u8;
@@ -22,8 +21,8 @@ fn decimal(value: u64, out: &mut [u8], at: usize) -> usize
 
 // Writes a signed number, and gives the place behind it.
 pub fn signed_decimal(value: i64, out: &mut [u8], at: usize) -> usize
-    requires { ⌜ at + length (signedDecimal value) ≤ length (now out) ⌝ }
-    ensures { λ r. ⌜ WrittenAt (signedDecimal value) at (now (out .entry)) r (now (out .exit)) ⌝ }
+    requires { at + length (signed_decimal value) ≤ length out.old }
+    ensures { WrittenAt (signed_decimal value) at out.old result out.new }
 {
     if is_negative(value) {
         out[at] = b'-';
@@ -34,8 +33,8 @@ pub fn signed_decimal(value: i64, out: &mut [u8], at: usize) -> usize
 
 // Writes a template with its numbers, and gives the place behind it.
 pub fn fill_template(template: &[u8], values: &[u64], out: &mut [u8], at: usize) -> usize
-    requires { ⌜ (count sign (now template) ≤ length (now values)) × (at + length (filled (now template) (now values)) ≤ length (now out)) ⌝ }
-    ensures { λ r. ⌜ WrittenAt (filled (now (template .entry)) (now (values .entry))) at (now (out .entry)) r (now (out .exit)) ⌝ }
+    requires { (count sign template.now ≤ length values.now) × (at + length (filled template.now values.now) ≤ length out.old) }
+    ensures { WrittenAt (filled template.now values.now) at out.old result out.new }
 {
     let mut end = at;
     let mut next = 0;

@@ -1,17 +1,15 @@
 -- Shares of the scope's networks, computed.
-use mathlib.Core.List.{List, [], _∷_, map}
-use mathlib.Core.Path.{_≡_, refl}
-use Prim.Native.Nat.{ℕ}
-use Rattle·lists.specs.Lists.{at}
-use Rattle·lists.specs.Below.{largestBelow, joinBelow, mapBelow}
-use Rattle·fraction.specs.Divisors.{gcdOf, lcmOf, lcmAll}
-use Rattle·game.specs.Game.{ownTerm, neighbourTerm}
-use Rattle·table_spec.specs.Layout.{rowAt, needs, weights, starts, neighbourNumbers, row}
-use Rattle·table_spec.specs.Examples.{path, weighted, star}
-use Rattle·share_spec.specs.Network.{denominator}
-use Rattle·share_spec.specs.TableNetwork.{largestDegree, divisorsOf}
-use Rattle·share_spec.specs.Formula.{numeratorOver, numerator}
-use Rattle·two_way·specs.specs.TwoWay.{networkOf}
+use Rattle.std.specs.Prelude.{List, [], ◌∷◌, map, ◌≡◌, refl, ℕ}
+use Rattle.lists.specs.Lists.{at}
+use Rattle.lists.specs.Below.{largest_below, join_below, map_below}
+use Rattle.fraction.specs.Divisors.{gcd_of, lcm_of, lcm_all}
+use Rattle.game.specs.Game.{own_term, neighbour_term}
+use Rattle.table_spec.specs.Layout.{row_at, needs, weights, starts, neighbour_numbers, row}
+use Rattle.table_spec.specs.Examples.{path, weighted, star}
+use Rattle.share_spec.specs.Network.{denominator}
+use Rattle.share_spec.specs.TableNetwork.{largest_degree, divisors_of}
+use Rattle.share_spec.specs.Formula.{numerator_over, numerator}
+use Rattle.two_way.specs.TwoWay.{network_of}
 
 -- one bus with need k, and no line
 lone : ℕ → List ℕ
@@ -56,16 +54,16 @@ cases =
     ∷ case (weighted 1000 1 1) (3002 ∷ 3005 ∷ 5 ∷ []) 6
     ∷ []
 
-by-formula : map (λ c. let N = networkOf (c .table) in case (c .table) (mapBelow (N .buses) (numerator N)) (denominator N)) cases ≡ cases
-unfolding cases numeratorOver ownTerm neighbourTerm divisorsOf largestDegree largestBelow lcmAll lcmOf gcdOf mapBelow joinBelow row rowAt needs weights starts neighbourNumbers at
-by-formula = refl
+by_formula : map (λ c. let N = network_of c.table in case c.table (map_below N.buses (numerator N)) (denominator N)) cases ≡ cases
+unfolding cases numerator_over own_term neighbour_term divisors_of largest_degree largest_below lcm_all lcm_of gcd_of map_below join_below row row_at needs weights starts neighbour_numbers at
+by_formula = refl
 
 -- Path without its line 0, over the L of Path: the scope's formula gives each bus 6, so the changes are 1, -2 and 1
-weakened : (let N = networkOf (3 ∷ 1 ∷ 1 ∷ 1 ∷ 1 ∷ 1 ∷ 1 ∷ 0 ∷ 0 ∷ 1 ∷ 2 ∷ 2 ∷ 1 ∷ []) in mapBelow 3 (numeratorOver N 6)) ≡ 6 ∷ 6 ∷ 6 ∷ []
-unfolding numeratorOver ownTerm neighbourTerm mapBelow joinBelow row rowAt needs weights starts neighbourNumbers at
+weakened : (let N = network_of (3 ∷ 1 ∷ 1 ∷ 1 ∷ 1 ∷ 1 ∷ 1 ∷ 0 ∷ 0 ∷ 1 ∷ 2 ∷ 2 ∷ 1 ∷ []) in map_below 3 (numerator_over N 6)) ≡ 6 ∷ 6 ∷ 6 ∷ []
+unfolding numerator_over own_term neighbour_term map_below join_below row row_at needs weights starts neighbour_numbers at
 weakened = refl
 
 -- the scope's star of 24 buses: L, the centre, a leaf
-star-shares : (let N = networkOf (star 23) in denominator N ∷ numerator N 0 ∷ numerator N 23 ∷ []) ≡ 5354228880 ∷ 61796724990 ∷ 2900207310 ∷ []
-unfolding star numeratorOver ownTerm neighbourTerm divisorsOf largestDegree largestBelow lcmAll lcmOf gcdOf mapBelow joinBelow row rowAt needs weights starts neighbourNumbers at
+star-shares : (let N = network_of (star 23) in denominator N ∷ numerator N 0 ∷ numerator N 23 ∷ []) ≡ 5354228880 ∷ 61796724990 ∷ 2900207310 ∷ []
+unfolding star numerator_over own_term neighbour_term divisors_of largest_degree largest_below lcm_all lcm_of gcd_of map_below join_below row row_at needs weights starts neighbour_numbers at
 star-shares = refl

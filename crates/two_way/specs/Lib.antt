@@ -1,6 +1,3 @@
 -- Networks of two-way lines: which network a line table holds, computed examples, then laws and claims.
 pub mod TwoWay
 pub mod Examples
-pub mod TwoWaySound
-pub mod FirstGame
-pub mod SameTable

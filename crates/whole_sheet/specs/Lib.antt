@@ -2,7 +2,4 @@
 pub mod WholeSheet
 pub mod Examples
 pub mod SheetRoom
-pub mod SheetFits
 pub mod SheetWriting
-pub mod SheetDue
-pub mod BeyondSheet

@@ -4,9 +4,3 @@ pub mod WriteOutcome
 pub mod RoundTrip
 pub mod FileExamples
 pub mod WrittenWords
-pub mod WrittenBytes
-pub mod WrittenWeights
-pub mod PairLaws
-pub mod WriteDue
-pub mod ReadBack
-pub mod GivenBack

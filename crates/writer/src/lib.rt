@@ -1,29 +1,24 @@
 // The file writer: the network file of a line table.
-ghost use mathlib.Core.Path.{_≡_};
-ghost use Prim.Native.Nat.{_+_, _≤_, _<_};
-ghost use lib.ListN.{length};
-ghost use Rattle·lists.specs.Lists.{WrittenAt};
-ghost use Rattle·refusals.specs.WrittenAnswer.{outcomeOfWritten};
-ghost use Rattle·table_spec.specs.Layout.{busCount, weights, row};
-ghost use Rattle·table_spec.specs.Holds.{NeedsInRange, Holds};
-ghost use Rattle·write_spec.specs.FileOf.{word, words, pairRecords, allOnes, weightSection, fileOf};
-ghost use Rattle·write_spec.specs.WriteOutcome.{writeOutcome, bytesAfter};
-ghost use Rattle·writer·specs.specs.FileFront.{frontOf};
-ghost use Rattle·writer·specs.specs.RowRecords.{recordAbove, rowRecords};
+ghost use Rattle.std.specs.Prelude.{◌≡◌, ◌+◌, ◌≤◌, ◌<◌, length};
+ghost use Rattle.lists.specs.Lists.{WrittenAt};
+ghost use Rattle.refusals.specs.WrittenAnswer.{outcome_of_written};
+ghost use Rattle.table_spec.specs.Layout.{bus_count, weights, row};
+ghost use Rattle.table_spec.specs.Holds.{NeedsInRange, Holds};
+ghost use Rattle.write_spec.specs.FileOf.{word, words, pair_records, all_ones, weight_section, file_of};
+ghost use Rattle.write_spec.specs.WriteOutcome.{write_outcome, bytes_after};
+ghost use Rattle.writer.specs.FileFront.{front_of};
+ghost use Rattle.writer.specs.RowRecords.{record_above, row_records};
+
 pub use network::Refusal;
 use network::rows::entry;
-use network::table::bus_count;
-use network::table::lines;
-use network::table::needs;
-use network::table::neighbours;
-use network::table::weights;
+use network::table::{bus_count, lines, needs, neighbours, weights};
 pub use refusals::Written;
 use table_check::holds;
 
 // Writes a number in two bytes, low byte first, and gives the place behind it.
 fn write_word(number: usize, out: &mut [u8], at: usize) -> usize
-    requires { ⌜ (number < 65536) × (at + 2 ≤ length (now out)) ⌝ }
-    ensures { λ r. ⌜ WrittenAt (word number) at (now (out .entry)) r (now (out .exit)) ⌝ }
+    requires { (number < 65536) × (at + 2 ≤ length out.old) }
+    ensures { WrittenAt (word number) at out.old result out.new }
 {
     out[at] = (number % 256) as u8;
     out[at + 1] = (number / 256) as u8;
@@ -32,8 +27,8 @@ fn write_word(number: usize, out: &mut [u8], at: usize) -> usize
 
 // Writes a byte for each need, and gives the place behind them.
 fn write_needs(needs: &[u16], out: &mut [u8], at: usize) -> usize
-    requires { ⌜ NeedsInRange (now needs) × (at + length (now needs) ≤ length (now out)) ⌝ }
-    ensures { λ r. ⌜ WrittenAt (now (needs .entry)) at (now (out .entry)) r (now (out .exit)) ⌝ }
+    requires { NeedsInRange needs.now × (at + length needs.now ≤ length out.old) }
+    ensures { WrittenAt needs.now at out.old result out.new }
 {
     let mut bus = 0;
     while bus < needs.len() {
@@ -45,8 +40,8 @@ fn write_needs(needs: &[u16], out: &mut [u8], at: usize) -> usize
 
 // Writes the record of a bus with a neighbour that is above it, and gives the place behind it; of another neighbour it writes none.
 fn write_pair(bus: usize, neighbour: usize, out: &mut [u8], at: usize) -> usize
-    requires { ⌜ (neighbour < 65536) × (at + length (recordAbove bus neighbour) ≤ length (now out)) ⌝ }
-    ensures { λ r. ⌜ WrittenAt (recordAbove bus neighbour) at (now (out .entry)) r (now (out .exit)) ⌝ }
+    requires { (neighbour < 65536) × (at + length (record_above bus neighbour) ≤ length out.old) }
+    ensures { WrittenAt (record_above bus neighbour) at out.old result out.new }
 {
     if neighbour <= bus {
         return at;
@@ -57,8 +52,8 @@ fn write_pair(bus: usize, neighbour: usize, out: &mut [u8], at: usize) -> usize
 
 // Writes the records of a bus with those of its neighbours that are above it, and gives the place behind them.
 fn write_row(row: &[u16], bus: usize, out: &mut [u8], at: usize) -> usize
-    requires { ⌜ at + length (rowRecords bus (now row)) ≤ length (now out) ⌝ }
-    ensures { λ r. ⌜ WrittenAt (rowRecords bus (now (row .entry))) at (now (out .entry)) r (now (out .exit)) ⌝ }
+    requires { at + length (row_records bus row.now) ≤ length out.old }
+    ensures { WrittenAt (row_records bus row.now) at out.old result out.new }
 {
     let mut end = at;
     let mut k = 0;
@@ -71,8 +66,8 @@ fn write_row(row: &[u16], bus: usize, out: &mut [u8], at: usize) -> usize
 
 // Writes the records of a network, and gives the place behind them.
 fn write_pairs(table: &[u16], out: &mut [u8], at: usize) -> usize
-    requires { ⌜ Holds (now table) × (at + length (pairRecords (busCount (now table)) (row (now table))) ≤ length (now out)) ⌝ }
-    ensures { λ r. ⌜ WrittenAt (pairRecords (busCount (now (table .entry))) (row (now (table .entry)))) at (now (out .entry)) r (now (out .exit)) ⌝ }
+    requires { Holds table.now × (at + length (pair_records (bus_count table.now) (row table.now)) ≤ length out.old) }
+    ensures { WrittenAt (pair_records (bus_count table.now) (row table.now)) at out.old result out.new }
 {
     let n = bus_count(table);
     let mut end = at;
@@ -86,8 +81,8 @@ fn write_pairs(table: &[u16], out: &mut [u8], at: usize) -> usize
 
 // Writes the file of a network up to its weights at the front of bytes that are enough, and gives the place behind it.
 fn write_front(table: &[u16], out: &mut [u8]) -> usize
-    requires { ⌜ Holds (now table) × (length (frontOf (now table)) ≤ length (now out)) ⌝ }
-    ensures { λ r. ⌜ WrittenAt (frontOf (now (table .entry))) 0 (now (out .entry)) r (now (out .exit)) ⌝ }
+    requires { Holds table.now × (length (front_of table.now) ≤ length out.old) }
+    ensures { WrittenAt (front_of table.now) 0 out.old result out.new }
 {
     let needs_at = write_word(bus_count(table), out, 0);
     let lines_at = write_needs(needs(table), out, needs_at);
@@ -97,7 +92,7 @@ fn write_front(table: &[u16], out: &mut [u8]) -> usize
 
 // Whether all weights are 1.
 fn all_ones(weights: &[u16]) -> bool
-    ensures { λ b. ⌜ b ≡ allOnes (now (weights .entry)) ⌝ }
+    ensures { result ≡ all_ones weights.now }
 {
     let mut bus = 0;
     while bus < weights.len() {
@@ -111,8 +106,8 @@ fn all_ones(weights: &[u16]) -> bool
 
 // Writes each weight in two bytes, and gives the place behind them.
 fn write_weights(weights: &[u16], out: &mut [u8], at: usize) -> usize
-    requires { ⌜ at + length (words (now weights)) ≤ length (now out) ⌝ }
-    ensures { λ r. ⌜ WrittenAt (words (now (weights .entry))) at (now (out .entry)) r (now (out .exit)) ⌝ }
+    requires { at + length (words weights.now) ≤ length out.old }
+    ensures { WrittenAt (words weights.now) at out.old result out.new }
 {
     let mut end = at;
     let mut bus = 0;
@@ -125,8 +120,8 @@ fn write_weights(weights: &[u16], out: &mut [u8], at: usize) -> usize
 
 // Writes the section of weights, unless all are 1, and gives the place behind it.
 fn write_section(weights: &[u16], ones: bool, out: &mut [u8], at: usize) -> usize
-    requires { ⌜ (ones ≡ allOnes (now weights)) × (length (now weights) < 65536) × (at + length (weightSection (now weights)) ≤ length (now out)) ⌝ }
-    ensures { λ r. ⌜ WrittenAt (weightSection (now (weights .entry))) at (now (out .entry)) r (now (out .exit)) ⌝ }
+    requires { (ones ≡ all_ones weights.now) × (length weights.now < 65536) × (at + length (weight_section weights.now) ≤ length out.old) }
+    ensures { WrittenAt (weight_section weights.now) at out.old result out.new }
 {
     if ones {
         return at;
@@ -137,8 +132,8 @@ fn write_section(weights: &[u16], ones: bool, out: &mut [u8], at: usize) -> usiz
 
 // How many bytes the file of a network has; `ones` says whether all weights are 1.
 fn byte_count(table: &[u16], ones: bool) -> usize
-    requires { ⌜ Holds (now table) × (ones ≡ allOnes (weights (now table))) ⌝ }
-    ensures { λ r. ⌜ r ≡ length (fileOf (now (table .entry))) ⌝ }
+    requires { Holds table.now × (ones ≡ all_ones (weights table.now)) }
+    ensures { result ≡ length (file_of table.now) }
 {
     let n = bus_count(table);
     let front = 2 + n + 2 + 4 * lines(table);
@@ -150,8 +145,8 @@ fn byte_count(table: &[u16], ones: bool) -> usize
 
 // Writes the file of a network at the front of bytes that are enough, and gives its byte count.
 fn write_file(table: &[u16], ones: bool, out: &mut [u8]) -> usize
-    requires { ⌜ Holds (now table) × (ones ≡ allOnes (weights (now table))) × (length (fileOf (now table)) ≤ length (now out)) ⌝ }
-    ensures { λ r. ⌜ WrittenAt (fileOf (now (table .entry))) 0 (now (out .entry)) r (now (out .exit)) ⌝ }
+    requires { Holds table.now × (ones ≡ all_ones (weights table.now)) × (length (file_of table.now) ≤ length out.old) }
+    ensures { WrittenAt (file_of table.now) 0 out.old result out.new }
 {
     let weights_at = write_front(table, out);
     write_section(weights(table), ones, out, weights_at)
@@ -159,8 +154,8 @@ fn write_file(table: &[u16], ones: bool, out: &mut [u8]) -> usize
 
 // Writes the file of a network at the front of lent bytes.
 pub fn write(table: &[u16], out: &mut [u8]) -> Written
-    ensures answer { λ r. ⌜ outcomeOfWritten r ≡ writeOutcome (now (table .entry)) (length (now (out .entry))) ⌝ }
-    ensures written { λ _. ⌜ now (out .exit) ≡ bytesAfter (now (table .entry)) (now (out .entry)) ⌝ }
+    ensures answer { outcome_of_written result ≡ write_outcome table.now (length out.old) }
+    ensures written { out.new ≡ bytes_after table.now out.old }
 {
     if !holds(table) {
         return Written::Refused(Refusal::NoNetwork);

@@ -1,38 +1,37 @@
 -- `order_average::compare_all` meets its contract.
-use Prim.Native.Nat.{_-_, _≤_}
-use borrow.Author.Needs.{needs}
-use Rattle·order_average·proofs.proofs.compare_all.Statement.{statement}
-use Rattle·order_average·proofs.proofs.compare_all.Tie as tie
+use Rattle.std.proofs.Common.{◌-◌, ◌≤◌, rules}
+use Rattle.order_average.proofs.compare_all.Statement.{statement}
+use Rattle.order_average.proofs.compare_all.Tie as tie
 
-abbrev Inv-loop2 : tie.InvT-loop2
-Inv-loop2 counts₀ buses number₀ number-end counts number = (buses ≤ 5) × (number ≤ number-end)
+abbrev invariant-loop2 : tie.invariant-loop2
+invariant-loop2 counts₀ buses number₀ number-end counts number = (buses ≤ 5) × (number ≤ number-end)
 
-abbrev μ-loop2 : tie.MeasureT-loop2
-μ-loop2 counts₀ buses number₀ number-end counts number = number-end - number
+abbrev decreases-loop2 : tie.decreases-loop2
+decreases-loop2 counts₀ buses number₀ number-end counts number = number-end - number
 
-abbrev Inv-loop : tie.InvT-loop
-Inv-loop counts₀ buses₀ counts buses = buses ≤ 6
+abbrev invariant-loop : tie.invariant-loop
+invariant-loop counts₀ buses₀ counts buses = buses ≤ 6
 
-abbrev μ-loop : tie.MeasureT-loop
-μ-loop counts₀ buses₀ counts buses = 6 - buses
+abbrev decreases-loop : tie.decreases-loop
+decreases-loop counts₀ buses₀ counts buses = 6 - buses
 
 pub compare-all-spec : {M : Type 1} → statement M
 compare-all-spec =
     tie.close
     (tie.spec
-    Inv-loop2
-    μ-loop2
-    Inv-loop
-    μ-loop
-    (λ c. search needs)
-    (λ c κs. search needs)
-    (λ c. search needs)
-    (λ c κs. search needs)
-    (λ c κs. search needs)
-    (λ c. search needs)
-    (λ c. search needs)
-    (λ c. search needs)
-    (λ c. search needs)
-    (λ c. search needs)
-    (λ c. search needs)
-    (λ c. search needs))
+    invariant-loop2
+    decreases-loop2
+    invariant-loop
+    decreases-loop
+    (λ c. search rules)
+    (λ c κs. search rules)
+    (λ c. search rules)
+    (λ c κs. search rules)
+    (λ c κs. search rules)
+    (λ c. search rules)
+    (λ c. search rules)
+    (λ c. search rules)
+    (λ c. search rules)
+    (λ c. search rules)
+    (λ c. search rules)
+    (λ c. search rules))

@@ -1,23 +1,23 @@
 -- `outage_study::main` meets its contract: what is judged lies within the buffer.
-use borrow.Author.Needs.{needs}
+use borrow.Author.Rules.{rules}
 use mathlib.Core.Path.{sym}
 use lib.Seq.{length-take-le}
-use Rattle·standard_io.specs.BytesRead.{bytes-within}
-use Rattle·outage_study·proofs.proofs.main.Statement.{statement}
-use Rattle·outage_study·proofs.proofs.main.Tie as tie
+use Rattle.standard_io.proofs.BytesRead.{bytes_within}
+use Rattle.outage_study.proofs.main.Statement.{statement}
+use Rattle.outage_study.proofs.main.Tie as tie
 
-pub main-spec : {M : Type 1} → statement M
-main-spec =
+pub main_spec : {M : Type 1} → statement M
+main_spec =
     tie.close
     (tie.spec
-    (λ c. search needs)
-    (λ c κs. search needs)
-    (λ c. search needs)
-    (λ c. let b = c .before in bytes-within _ (b .bytes .given .1) (b .before .before .before .read-input .ensures))
-    (λ c. let b = c .before .before in sym (length-take-le _ _ (bytes-within _ (b .bytes .given .1) (b .before .before .before .read-input .ensures))))
-    (λ c κs. search needs)
-    (λ c. search needs)
-    (λ c. search needs)
-    (λ c κs. search needs)
-    (λ c. search needs)
-    (λ c. search needs))
+    (λ c. search rules)
+    (λ c κs. search rules)
+    (λ c. search rules)
+    (λ c. let b = c.before in bytes_within _ b.bytes.given.1 b.before.before.before.read-input.ensures)
+    (λ c. let b = c.before.before in sym (length-take-le _ _ (bytes_within _ b.bytes.given.1 b.before.before.before.read-input.ensures)))
+    (λ c κs. search rules)
+    (λ c. search rules)
+    (λ c. search rules)
+    (λ c κs. search rules)
+    (λ c. search rules)
+    (λ c. search rules))

@@ -1,43 +1,43 @@
 -- `reader::read_records` meets its contract.
-use borrow.Author.Needs.{needs}
-use mathlib.Core.Path.{sym, _∙_}
-use Rattle·lists.specs.Tests.{negated, passed}
-use Rattle·refusals.specs.Due.{stop, pass}
-use Rattle·file_spec.specs.SoundSections.{ends-facts}
-use Rattle·reader·proofs.proofs.read_records.Statement.{statement}
-use Rattle·reader·proofs.proofs.read_records.Tie as tie
+use borrow.Author.Rules.{rules}
+use mathlib.Core.Path.{sym, ◌∙◌}
+use Rattle.lists.proofs.Tests.{negated, passed}
+use Rattle.refusals.proofs.Due.{stop, pass}
+use Rattle.file_spec.proofs.SoundSections.{ends_facts}
+use Rattle.reader.proofs.read_records.Statement.{statement}
+use Rattle.reader.proofs.read_records.Tie as tie
 
 returns : tie.Need-returns
-returns c = stop (negated (c .before .sound-ends .ensures) (c .if1 .taken))
+returns c = stop (negated c.before.sound_ends_lem.ensures c.if1.true)
 
-returns-2 : tie.Need-returns-2
-returns-2 c =
-    let e = c .before .before in
-    pass (negated (e .before .sound-ends .ensures) (e .if1 .left)) (stop (sym (c .before .out-of-order .ensures) ∙ c .if2 .taken))
+returns_2 : tie.Need-returns-2
+returns_2 c =
+    let e = c.before.before in
+    pass (negated e.before.sound_ends_lem.ensures e.if1.false) (stop (sym c.before.out_of_order.ensures ∙ c.if2.true))
 
 read-lines-requires : tie.Need-read-lines-requires
 read-lines-requires c κs =
-    let d = c .before in
-    let e = d .before .before in
-    let h = e .before .before .before .before .before .before .pre in (
-      h .1,
-      h .3,
+    let d = c.before in
+    let e = d.before.before in
+    let h = e.before.before.before.before.before.before.requires in (
+      h.1,
+      h.3,
       record {
-        buses = h .0;
-        lines = h .2;
-        ends = ends-facts _ _ _ (passed (e .before .sound-ends .ensures) (e .if1 .left));
-        order = sym (d .before .out-of-order .ensures) ∙ d .if2 .left;
+        buses = h.0;
+        lines = h.2;
+        ends = ends_facts _ _ _ (passed e.before.sound_ends_lem.ensures e.if1.false);
+        order = sym d.before.out_of_order.ensures ∙ d.if2.false;
       },
     )
 
 returns-3 : tie.Need-returns-3
 returns-3 c =
-    let p = c .before .before in
-    let d = p .before .before in
-    let e = d .before .before in
-    pass (negated (e .before .sound-ends .ensures) (e .if1 .left)) (pass (sym (d .before .out-of-order .ensures) ∙ d .if2 .left) (p .read-lines .ensures))
+    let p = c.before.before in
+    let d = p.before.before in
+    let e = d.before.before in
+    pass (negated e.before.sound_ends_lem.ensures e.if1.false) (pass (sym d.before.out_of_order.ensures ∙ d.if2.false) p.read-lines.ensures)
 
 pub read-records-spec : {M : Type 1} → statement M
 read-records-spec =
     tie.close
-    (tie.spec (λ c κs. search needs) returns (λ c κs. search needs) returns-2 read-lines-requires (λ c. search needs) returns-3)
+    (tie.spec (λ c κs. search rules) returns (λ c κs. search rules) returns_2 read-lines-requires (λ c. search rules) returns-3)

@@ -1,26 +1,26 @@
 -- `row_builder::increment` meets its contract.
-use borrow.Author.Needs.{needs}
+use borrow.Author.Rules.{rules}
 use native.Mathlib.Omega.{arith}
 use mathlib.Core.Path.{refl}
-use Rattle·lists.specs.Lists.{at}
-use Rattle·row_builder·proofs.proofs.increment.Statement.{statement}
-use Rattle·row_builder·proofs.proofs.increment.Tie as tie
+use Rattle.lists.specs.Lists.{at}
+use Rattle.row_builder.proofs.increment.Statement.{statement}
+use Rattle.row_builder.proofs.increment.Tie as tie
 
-add-counts : tie.Need-add-counts
+add-counts : tie.Need-overflow-add-counts
 unfolding at
-add-counts c = omega (arith, c .before .pre .1)
+add-counts c = omega (arith, c.before.requires.1)
 
 returns : tie.Need-returns
 unfolding at
 returns c = refl
 
-pub increment-spec : {M : Type 1} → statement M
-increment-spec =
+pub increment_spec : {M : Type 1} → statement M
+increment_spec =
     tie.close
     (tie.spec
-    (λ c. search needs)
-    (λ c. search needs)
+    (λ c. search rules)
+    (λ c. search rules)
     add-counts
-    (λ c. search needs)
-    (λ c. search needs)
+    (λ c. search rules)
+    (λ c. search rules)
     returns)

@@ -1,45 +1,45 @@
 -- `scorer::share` meets its contract.
-use borrow.Author.Needs.{needs}
+use borrow.Author.Rules.{rules}
 use native.Mathlib.Omega.{arith}
 use mathlib.Core.Bool.{true}
-use mathlib.Core.Path.{_≡_, refl, ap₂}
-use Rattle·lists.specs.Tests.{passed, failed}
-use Rattle·refusals.specs.Due.{accept}
-use Rattle·table_spec.specs.Holds.{holds}
-use Rattle·table_spec.specs.Facts.{holds-facts}
-use Rattle·table_spec.specs.TableCauses.{no-network, on-held, no-bus, on-bus}
-use Rattle·two_way.specs.TwoWay.{networkOf}
-use Rattle·two_way.specs.TwoWaySound.{held-sound}
-use Rattle·share_spec.specs.SharePromises.{share-promised}
-use Rattle·scorer·proofs.proofs.share.Statement.{statement}
-use Rattle·scorer·proofs.proofs.share.Tie as tie
+use mathlib.Core.Path.{◌≡◌, refl, ap₂}
+use Rattle.lists.proofs.Tests.{passed, failed}
+use Rattle.refusals.proofs.Due.{accept}
+use Rattle.table_spec.specs.Holds.{holds}
+use Rattle.table_spec.proofs.Facts.{holds_facts}
+use Rattle.table_spec.proofs.TableCauses.{no_network, on_held, no_bus, on_bus}
+use Rattle.two_way.specs.TwoWay.{network_of}
+use Rattle.two_way.proofs.TwoWaySound.{held_sound}
+use Rattle.share_spec.proofs.SharePromises.{share_promised}
+use Rattle.scorer.proofs.share.Statement.{statement}
+use Rattle.scorer.proofs.share.Tie as tie
 
 -- the slice holds a network
-held : (c : tie.Else1) → holds (c .before .before .before .args .table .now) ≡ true
-held c = passed (c .before .holds .ensures) (c .if1 .left)
+held : (c : tie.Else1) → holds c.before.before.before.args.table.now ≡ true
+held c = passed c.before.holds.ensures c.if1.false
 
 returns : tie.Need-returns
 returns c =
-    let a = c .before .before .before .args in
-    share-promised (networkOf (a .table .now)) (held-sound (a .table .now)) (a .bus) (no-network (failed (c .before .holds .ensures) (c .if1 .taken)))
+    let a = c.before.before.before.args in
+    share_promised (network_of a.table.now) (held_sound a.table.now) a.bus (no_network (failed c.before.holds.ensures c.if1.true))
 
 bus-count-requires : tie.Need-bus-count-requires
-bus-count-requires c κs = let z = holds-facts _ (held c) .shape .complete in omega arith
+bus-count-requires c κs = let z = (holds_facts _ (held c)).shape.complete in omega arith
 
-returns-2 : tie.Need-returns-2
-returns-2 c =
-    let a = c .before .before .before .before .before .args in
-    share-promised (networkOf (a .table .now)) (held-sound (a .table .now)) (a .bus) (on-held (held (c .before .before)) (no-bus (c .before .bus-count .ensures .0) (omega (arith, c .if2 .taken))))
+returns_2 : tie.Need-returns-2
+returns_2 c =
+    let a = c.before.before.before.before.before.args in
+    share_promised (network_of a.table.now) (held_sound a.table.now) a.bus (on_held (held c.before.before) (no_bus c.before.bus-count.ensures.0 (omega (arith, c.if2.true))))
 
 share-of-requires : tie.Need-share-of-requires
-share-of-requires c κs = (holds-facts _ (held (c .before .before)), omega (arith, c .before .bus-count .ensures .0, c .if2 .left))
+share-of-requires c κs = (holds_facts _ (held c.before.before), omega (arith, c.before.bus-count.ensures.0, c.if2.false))
 
 returns-3 : tie.Need-returns-3
 returns-3 c =
-    let e = c .before in
-    let a = e .before .before .before .before .before .args in
-    share-promised (networkOf (a .table .now)) (held-sound (a .table .now)) (a .bus)
-    (on-held (held (e .before .before)) (on-bus (e .before .bus-count .ensures .0) (e .if2 .left) (accept (ap₂ (λ x L. (x, L)) (c .share-of .ensures .0) (c .share-of .ensures .1)) refl)))
+    let e = c.before in
+    let a = e.before.before.before.before.before.args in
+    share_promised (network_of a.table.now) (held_sound a.table.now) a.bus
+    (on_held (held e.before.before) (on_bus e.before.bus-count.ensures.0 e.if2.false (accept (ap₂ (λ x L. (x, L)) c.share-of.ensures.0 c.share-of.ensures.1) refl)))
 
 pub share-spec : {M : Type 1} → statement M
-share-spec = tie.close (tie.spec (λ c κs. search needs) returns bus-count-requires returns-2 share-of-requires returns-3)
+share-spec = tie.close (tie.spec (λ c κs. search rules) returns bus-count-requires returns_2 share-of-requires returns-3)

@@ -1,57 +1,57 @@
 -- `scorer::shares` meets its contract.
-use borrow.Author.Needs.{needs}
+use borrow.Author.Rules.{rules}
 use native.Mathlib.Omega.{arith}
 use mathlib.Core.Bool.{true}
-use mathlib.Core.Path.{_≡_, refl, _∙_}
-use Rattle·lists.specs.Tests.{passed, failed}
-use Rattle·refusals.specs.Due.{accept, below, not-below}
-use Rattle·table_spec.specs.Holds.{holds}
-use Rattle·table_spec.specs.Facts.{holds-facts}
-use Rattle·table_spec.specs.TableCauses.{no-network, on-held}
-use Rattle·two_way.specs.TwoWay.{networkOf}
-use Rattle·two_way.specs.TwoWaySound.{held-sound}
-use Rattle·share_spec.specs.SharePromises.{put-stored, shares-promised}
-use Rattle·scorer·proofs.proofs.shares.Statement.{statement}
-use Rattle·scorer·proofs.proofs.shares.Tie as tie
+use mathlib.Core.Path.{◌≡◌, refl, ◌∙◌}
+use Rattle.lists.proofs.Tests.{passed, failed}
+use Rattle.refusals.proofs.Due.{accept, below, not-below}
+use Rattle.table_spec.specs.Holds.{holds}
+use Rattle.table_spec.proofs.Facts.{holds_facts}
+use Rattle.table_spec.proofs.TableCauses.{no_network, on_held}
+use Rattle.two_way.specs.TwoWay.{network_of}
+use Rattle.two_way.proofs.TwoWaySound.{held_sound}
+use Rattle.share_spec.proofs.SharePromises.{put-stored, shares_promised}
+use Rattle.scorer.proofs.shares.Statement.{statement}
+use Rattle.scorer.proofs.shares.Tie as tie
 
 -- the slice holds a network
-held : (c : tie.Else1) → holds (c .before .before .before .before .args .table .now) ≡ true
-held c = passed (c .before .holds .ensures) (c .if1 .left)
+held : (c : tie.Else1) → holds c.before.before.before.before.args.table.now ≡ true
+held c = passed c.before.holds.ensures c.if1.false
 
 returns : tie.Need-returns
 returns c =
-    let a = c .before .before .before .before .args in
-    shares-promised (networkOf (a .table .now)) (held-sound (a .table .now)) _ (no-network (failed (c .before .holds .ensures) (c .if1 .taken)))
+    let a = c.before.before.before.before.args in
+    shares_promised (network_of a.table.now) (held_sound a.table.now) _ (no_network (failed c.before.holds.ensures c.if1.true))
 
 bus-count-requires : tie.Need-bus-count-requires
-bus-count-requires c κs = let z = holds-facts _ (held c) .shape .complete in omega arith
+bus-count-requires c κs = let z = (holds_facts _ (held c)).shape.complete in omega arith
 
-returns-2 : tie.Need-returns-2
-returns-2 c =
-    let a = c .before .before .before .before .before .before .args in
-    shares-promised (networkOf (a .table .now)) (held-sound (a .table .now)) _
-    (on-held (held (c .before .before)) (below refl (c .before .bus-count .ensures .0) (c .if2 .taken)))
+returns_2 : tie.Need-returns-2
+returns_2 c =
+    let a = c.before.before.before.before.before.before.args in
+    shares_promised (network_of a.table.now) (held_sound a.table.now) _
+    (on_held (held c.before.before) (below refl c.before.bus-count.ensures.0 c.if2.true))
 
 returns-3 : tie.Need-returns-3
 returns-3 c =
-    let p = c .before .before in
-    let e = p .before .before in
-    let a = e .before .before .before .before .before .before .args in
-    shares-promised (networkOf (a .table .now)) (held-sound (a .table .now)) _
-    (on-held (held (e .before .before)) (not-below refl (e .before .bus-count .ensures .0) (e .if2 .left) (accept (p .score .ensures .0) (p .score .ensures .1 ∙ put-stored _ _))))
+    let p = c.before.before in
+    let e = p.before.before in
+    let a = e.before.before.before.before.before.before.args in
+    shares_promised (network_of a.table.now) (held_sound a.table.now) _
+    (on_held (held e.before.before) (not-below refl e.before.bus-count.ensures.0 e.if2.false (accept p.score.ensures.0 (p.score.ensures.1 ∙ put-stored _ _))))
 
 score-requires : tie.Need-score-requires
 score-requires c κs =
-    let e = c .before in (holds-facts _ (held (e .before .before)), omega (arith, e .before .bus-count .ensures .0, e .if2 .left))
+    let e = c.before in (holds_facts _ (held e.before.before), omega (arith, e.before.bus-count.ensures.0, e.if2.false))
 
 pub shares-spec : {M : Type 1} → statement M
 shares-spec =
     tie.close
     (tie.spec
-    (λ c κs. search needs)
+    (λ c κs. search rules)
     returns
     bus-count-requires
-    returns-2
+    returns_2
     score-requires
-    (λ c. search needs)
+    (λ c. search rules)
     returns-3)

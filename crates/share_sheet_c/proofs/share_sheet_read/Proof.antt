@@ -1,35 +1,35 @@
 -- `share_sheet_c::share_sheet_read` meets its contract.
-use borrow.Author.Needs.{needs}
+use borrow.Author.Rules.{rules}
 use mathlib.Core.List.{List}
 use mathlib.Core.Path.{ap, subst}
 use Prim.Native.Nat.{ℕ}
-use Rattle·refusals.specs.Outcomes.{Outcome}
-use Rattle·network.specs.declared.Counts.{Counts}
-use Rattle·file_sections.specs.FileAnswers.{outcomeOfReading}
-use Rattle·read_spec.specs.ReadOutcome.{Recorded}
-use Rattle·share_sheet_c·specs.specs.StatusLaws.{refused, status-keeps, accepted}
-use Rattle·share_sheet_c·proofs.proofs.share_sheet_read.Statement.{statement}
-use Rattle·share_sheet_c·proofs.proofs.share_sheet_read.Tie as tie
+use Rattle.refusals.specs.Outcomes.{Outcome}
+use Rattle.network.specs.declared.Counts.{Counts}
+use Rattle.file_sections.specs.FileAnswers.{outcome_of_reading}
+use Rattle.read_spec.specs.ReadOutcome.{Recorded}
+use Rattle.share_sheet_c.proofs.StatusLaws.{refused, status_keeps, accepted}
+use Rattle.share_sheet_c.proofs.share_sheet_read.Statement.{statement}
+use Rattle.share_sheet_c.proofs.share_sheet_read.Tie as tie
 
 -- what is promised of the lent table, of an answer
 abbrev RecordedAs : List ℕ → List ℕ → List ℕ → Outcome Counts → Type 0
-RecordedAs f t t′ answer = Recorded f t answer t′
+RecordedAs f t t' answer = Recorded f t answer t'
 
 returns : tie.Need-returns
 returns c =
-    let m = c .before .before in
-    let a = m .before .before .before .before in
-    let says = ap outcomeOfReading (m .cause .given .1) in
-    (refused says (c .status .ensures) (a .read .ensures .0), (a .read .ensures .1 .0, status-keeps (RecordedAs _ _ _) (m .cause .given .0 .0) _ says (c .status .ensures) (a .read .ensures .1 .1)))
+    let m = c.before.before in
+    let a = m.before.before.before.before in
+    let says = ap outcome_of_reading m.cause.given.1 in
+    (refused says c.status.ensures a.read.ensures.0, (a.read.ensures.1.0, status_keeps (RecordedAs _ _ _) m.cause.given.0.0 _ says c.status.ensures a.read.ensures.1.1))
 
-returns-2 : tie.Need-returns-2
-returns-2 c =
-    let m = c .before in
-    let a = m .before .before .before .before in
-    let says = ap outcomeOfReading (m .counts .given .1) in
-    (accepted says (a .read .ensures .0), (a .read .ensures .1 .0, subst (RecordedAs _ _ _) says (a .read .ensures .1 .1)))
+returns_2 : tie.Need-returns-2
+returns_2 c =
+    let m = c.before in
+    let a = m.before.before.before.before in
+    let says = ap outcome_of_reading m.counts.given.1 in
+    (accepted says a.read.ensures.0, (a.read.ensures.1.0, subst (RecordedAs _ _ _) says a.read.ensures.1.1))
 
 pub share-sheet-read-spec : {M : Type 1} → statement M
 share-sheet-read-spec =
     tie.close
-    (tie.spec (λ c κs. search needs) (λ c. search needs) (λ c κs. search needs) (λ c. search needs) (λ c. search needs) returns (λ c. search needs) returns-2)
+    (tie.spec (λ c κs. search rules) (λ c. search rules) (λ c κs. search rules) (λ c. search rules) (λ c. search rules) returns (λ c. search rules) returns_2)

@@ -1,27 +1,27 @@
 -- `share_sheet_c::share_sheet_row` meets its contract.
-use borrow.Author.Needs.{needs}
+use borrow.Author.Rules.{rules}
 use mathlib.Core.Path.{ap, subst}
-use Rattle·table_spec.specs.TableOutcomes.{RowStands}
-use Rattle·table_lookup.specs.LookupAnswers.{outcomeOfPlace}
-use Rattle·share_sheet_c·specs.specs.StatusLaws.{refused, status-keeps, accepted}
-use Rattle·share_sheet_c·proofs.proofs.share_sheet_row.Statement.{statement}
-use Rattle·share_sheet_c·proofs.proofs.share_sheet_row.Tie as tie
+use Rattle.table_spec.specs.TableOutcomes.{RowStands}
+use Rattle.table_lookup.specs.LookupAnswers.{outcome_of_place}
+use Rattle.share_sheet_c.proofs.StatusLaws.{refused, status_keeps, accepted}
+use Rattle.share_sheet_c.proofs.share_sheet_row.Statement.{statement}
+use Rattle.share_sheet_c.proofs.share_sheet_row.Tie as tie
 
 returns : tie.Need-returns
 returns c =
-    let m = c .before .before in
-    let a = m .before .before in
-    let says = ap outcomeOfPlace (m .cause .given .1) in
-    (refused says (c .status .ensures) (a .row-place .ensures .0), status-keeps (RowStands _ _) (m .cause .given .0 .0) _ says (c .status .ensures) (a .row-place .ensures .1))
+    let m = c.before.before in
+    let a = m.before.before in
+    let says = ap outcome_of_place m.cause.given.1 in
+    (refused says c.status.ensures a.row-place.ensures.0, status_keeps (RowStands _ _) m.cause.given.0.0 _ says c.status.ensures a.row-place.ensures.1)
 
-returns-2 : tie.Need-returns-2
-returns-2 c =
-    let m = c .before in
-    let a = m .before .before in
-    let says = ap outcomeOfPlace (m .first .given .1) in
-    (accepted says (a .row-place .ensures .0), subst (RowStands _ _) says (a .row-place .ensures .1))
+returns_2 : tie.Need-returns-2
+returns_2 c =
+    let m = c.before in
+    let a = m.before.before in
+    let says = ap outcome_of_place m.first.given.1 in
+    (accepted says a.row-place.ensures.0, subst (RowStands _ _) says a.row-place.ensures.1)
 
 pub share-sheet-row-spec : {M : Type 1} → statement M
 share-sheet-row-spec =
     tie.close
-    (tie.spec (λ c κs. search needs) (λ c. search needs) (λ c κs. search needs) (λ c. search needs) returns returns-2)
+    (tie.spec (λ c κs. search rules) (λ c. search rules) (λ c κs. search rules) (λ c. search rules) returns returns_2)

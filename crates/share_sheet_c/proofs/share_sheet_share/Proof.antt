@@ -1,28 +1,28 @@
 -- `share_sheet_c::share_sheet_share` meets its contract.
-use borrow.Author.Needs.{needs}
+use borrow.Author.Rules.{rules}
 use mathlib.Core.Path.{ap, subst}
-use Rattle·two_way.specs.TwoWay.{networkOf}
-use Rattle·share_spec.specs.ShareOutcomes.{OneFair}
-use Rattle·scorer.specs.ShareAnswers.{outcomeOfShare}
-use Rattle·share_sheet_c·specs.specs.StatusLaws.{refused, status-keeps, accepted}
-use Rattle·share_sheet_c·proofs.proofs.share_sheet_share.Statement.{statement}
-use Rattle·share_sheet_c·proofs.proofs.share_sheet_share.Tie as tie
+use Rattle.two_way.specs.TwoWay.{network_of}
+use Rattle.share_spec.specs.ShareOutcomes.{OneFair}
+use Rattle.scorer.specs.ShareAnswers.{outcome_of_share}
+use Rattle.share_sheet_c.proofs.StatusLaws.{refused, status_keeps, accepted}
+use Rattle.share_sheet_c.proofs.share_sheet_share.Statement.{statement}
+use Rattle.share_sheet_c.proofs.share_sheet_share.Tie as tie
 
 returns : tie.Need-returns
 returns c =
-    let m = c .before .before in
-    let a = m .before .before in
-    let says = ap outcomeOfShare (m .cause .given .1) in
-    (refused says (c .status .ensures) (a .share .ensures .0), status-keeps (OneFair (networkOf _) _) (m .cause .given .0 .0) _ says (c .status .ensures) (a .share .ensures .1))
+    let m = c.before.before in
+    let a = m.before.before in
+    let says = ap outcome_of_share m.cause.given.1 in
+    (refused says c.status.ensures a.share.ensures.0, status_keeps (OneFair (network_of _) _) m.cause.given.0.0 _ says c.status.ensures a.share.ensures.1)
 
-returns-2 : tie.Need-returns-2
-returns-2 c =
-    let m = c .before in
-    let a = m .before .before in
-    let says = ap outcomeOfShare (m .part .given .1) in
-    (accepted says (a .share .ensures .0), subst (OneFair (networkOf _) _) says (a .share .ensures .1))
+returns_2 : tie.Need-returns-2
+returns_2 c =
+    let m = c.before in
+    let a = m.before.before in
+    let says = ap outcome_of_share m.part.given.1 in
+    (accepted says a.share.ensures.0, subst (OneFair (network_of _) _) says a.share.ensures.1)
 
 pub share-sheet-share-spec : {M : Type 1} → statement M
 share-sheet-share-spec =
     tie.close
-    (tie.spec (λ c κs. search needs) (λ c. search needs) (λ c κs. search needs) (λ c. search needs) returns returns-2)
+    (tie.spec (λ c κs. search rules) (λ c. search rules) (λ c κs. search rules) (λ c. search rules) returns returns_2)

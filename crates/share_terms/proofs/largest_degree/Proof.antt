@@ -1,59 +1,59 @@
 -- `share_terms::largest_degree` meets its contract. The loop's invariant: the largest degree of the buses passed.
-use borrow.Author.Needs.{needs}
+use borrow.Author.Rules.{rules}
 use native.Mathlib.Omega.{arith}
-use mathlib.Core.Logic.{⊎-elim}
-use mathlib.Core.Path.{_≡_, refl, ap, _∙_}
-use Prim.Native.Nat.{_-_, _≤_}
+use mathlib.Core.Logic.{⊎_elim}
+use mathlib.Core.Path.{◌≡◌, refl, ap, ◌∙◌}
+use Prim.Native.Nat.{◌-◌, ◌≤◌}
 use lib.ListN.{length}
-use Rattle·lists.specs.Below.{largestBelow}
-use Rattle·lists.specs.Loops.{by-end, largestBelow-rises, largestBelow-stays}
-use Rattle·table_spec.specs.Layout.{degree}
-use Rattle·share_spec.specs.TableNetwork.{largestDegree}
-use Rattle·share_terms·proofs.proofs.largest_degree.Statement.{statement}
-use Rattle·share_terms·proofs.proofs.largest_degree.Tie as tie
+use Rattle.lists.specs.Below.{largest_below}
+use Rattle.lists.proofs.Loops.{by_end, largest_below_rises, largest_below_stays}
+use Rattle.table_spec.specs.Layout.{degree}
+use Rattle.share_spec.specs.TableNetwork.{largest_degree}
+use Rattle.share_terms.proofs.largest_degree.Statement.{statement}
+use Rattle.share_terms.proofs.largest_degree.Tie as tie
 
-abbrev Inv-loop : tie.InvT-loop
-Inv-loop table n largest₀ bus₀ largest bus = (bus ≤ n) × (largest ≡ largestBelow bus (degree table))
+abbrev invariant-loop : tie.invariant-loop
+invariant-loop table n largest₀ bus₀ largest bus = (bus ≤ n) × (largest ≡ largest_below bus (degree table))
 
-abbrev μ-loop : tie.MeasureT-loop
-μ-loop table n largest₀ bus₀ largest bus = n - bus
+abbrev decreases-loop : tie.decreases-loop
+decreases-loop table n largest₀ bus₀ largest bus = n - bus
 
-bus-count-requires : tie.Need-bus-count-requires Inv-loop μ-loop
-bus-count-requires c κs = let z = c .before .pre .complete in omega arith
+bus-count-requires : tie.Need-bus-count-requires invariant-loop decreases-loop
+bus-count-requires c κs = let z = c.before.requires.complete in omega arith
 
-loop-holds : tie.Need-loop-holds Inv-loop μ-loop
-unfolding largestBelow
-loop-holds c = (search needs, refl)
+loop-holds : tie.Need-loop-init invariant-loop decreases-loop
+unfolding largest_below
+loop-holds c = (search rules, refl)
 
-neighbours-requires : tie.Need-neighbours-requires Inv-loop μ-loop
-neighbours-requires c κs = (c .before .before .before .before .pre, omega (arith, c .before .before .bus-count .ensures .0))
+neighbours-requires : tie.Need-neighbours-requires invariant-loop decreases-loop
+neighbours-requires c κs = (c.before.before.before.before.requires, omega (arith, c.before.before.bus-count.ensures.0))
 
-loop-again : tie.Need-loop-again Inv-loop μ-loop
+loop-again : tie.Need-loop-preserved invariant-loop decreases-loop
 loop-again c =
-    let v = c .before .before .before in
-    let e = ap length (c .before .neighbours .ensures) in
-    ⊎-elim
-    (λ w. (omega arith, w .1 ∙ largestBelow-rises _ _ (v .loop .inv .1) e (w .0 .taken)))
-    (λ w. (omega arith, w .1 ∙ largestBelow-stays _ _ (v .loop .inv .1) e (w .0 .left)))
-    (c .if1 .came)
+    let v = c.before.before.before in
+    let e = ap length c.before.neighbours.ensures in
+    ⊎_elim
+    (λ w. (omega arith, w.1 ∙ largest_below_rises _ _ v.loop.invariant.1 e w.0.taken))
+    (λ w. (omega arith, w.1 ∙ largest_below_stays _ _ v.loop.invariant.1 e w.0.left))
+    c.if1.branch
 
-returns : tie.Need-returns Inv-loop μ-loop
-unfolding largestDegree
+returns : tie.Need-returns invariant-loop decreases-loop
+unfolding largest_degree
 returns c =
-    let e = c .before .before .bus-count .ensures .0 in
-    by-end (λ i. c .before .loop .largest ≡ largestBelow i (degree (c .before .before .before .before .args .table .now)))
-    (c .before .loop .inv .1) (omega (arith, e)) (omega (arith, e))
+    let e = c.before.before.bus-count.ensures.0 in
+    by_end (λ i. c.before.loop.largest ≡ largest_below i (degree c.before.before.before.before.args.table.now))
+    c.before.loop.invariant.1 (omega (arith, e)) (omega (arith, e))
 
 pub largest-degree-spec : {M : Type 1} → statement M
 largest-degree-spec =
     tie.close
     (tie.spec
-    Inv-loop
-    μ-loop
+    invariant-loop
+    decreases-loop
     bus-count-requires
     loop-holds
     neighbours-requires
-    (λ c. search needs)
-    (λ c. search needs)
+    (λ c. search rules)
+    (λ c. search rules)
     loop-again
     returns)

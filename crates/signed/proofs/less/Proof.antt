@@ -1,14 +1,14 @@
 -- `signed::less` meets its contract.
-use borrow.Author.Needs.{needs}
-use Rattle·signed·specs.specs.SignedBits.{less-fits, less-read}
-use Rattle·signed·proofs.proofs.less.Statement.{statement}
-use Rattle·signed·proofs.proofs.less.Tie as tie
+use borrow.Author.Rules.{rules}
+use Rattle.signed.proofs.SignedBits.{less_fits, less_read}
+use Rattle.signed.proofs.less.Statement.{statement}
+use Rattle.signed.proofs.less.Tie as tie
 
 pub less-spec : {M : Type 1} → statement M
 less-spec =
     tie.close
     (tie.spec
-    (λ c. search needs)
-    (λ c. search needs)
-    (λ c. less-fits _ _ (c .pre .0) (c .pre .1))
-    (λ c. less-read _ _ (c .pre .0) (c .pre .1)))
+    (λ c. search rules)
+    (λ c. search rules)
+    (λ c. less_fits _ _ c.requires.0 c.requires.1)
+    (λ c. less_read _ _ c.requires.0 c.requires.1))

@@ -1,11 +1,11 @@
 -- `small_networks::size` meets its contract.
-use borrow.Author.Needs.{needs}
+use Rattle.std.proofs.Common.{rules}
 use lib.Count.{ones-le}
-use Rattle·small_networks·proofs.proofs.size.Statement.{statement}
-use Rattle·small_networks·proofs.proofs.size.Tie as tie
+use Rattle.small_networks.proofs.size.Statement.{statement}
+use Rattle.small_networks.proofs.size.Tie as tie
 
 returns : tie.Need-returns
-returns c = ones-le 32 _ (search needs)
+returns c = ones-le 32 _ (search rules)
 
 pub size-spec : {M : Type 1} → statement M
 size-spec = tie.close (tie.spec returns)

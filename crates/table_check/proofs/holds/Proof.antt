@@ -1,64 +1,64 @@
 -- `table_check::holds` meets its contract.
-use borrow.Author.Needs.{needs}
+use borrow.Author.Rules.{rules}
 use native.Mathlib.Omega.{arith}
 use mathlib.Core.Bool.{true}
-use mathlib.Core.Path.{_≡_, sym}
-use Rattle·lists.specs.Tests.{fails, passed, failed, never-both}
-use Rattle·table_spec.specs.Facts.{complete-facts, complete-test, two-way-test, holds-facts, steps-read, holds-read}
-use Rattle·table_spec.specs.Holds.{complete, twoWay}
-use Rattle·table_check·proofs.proofs.holds.Statement.{statement}
-use Rattle·table_check·proofs.proofs.holds.Tie as tie
+use mathlib.Core.Path.{◌≡◌, sym}
+use Rattle.lists.proofs.Tests.{fails, passed, failed, never_both}
+use Rattle.table_spec.proofs.Facts.{complete_facts, complete_test, two_way_test, holds_facts, steps_read, holds_read}
+use Rattle.table_spec.specs.Holds.{complete, two_way}
+use Rattle.table_check.proofs.holds.Statement.{statement}
+use Rattle.table_check.proofs.holds.Tie as tie
 
 returns : tie.Need-returns
-returns c = sym (fails _ (λ w. let z = holds-facts _ w .shape .complete in omega arith))
+returns c = sym (fails _ (λ w. let z = (holds_facts _ w).shape.complete in omega arith))
 
-returns-2 : tie.Need-returns-2
-returns-2 c = sym (fails _ (λ w. never-both (complete-test _ _ (holds-facts _ w .shape .complete)) (rw (c .before .before .starts-at .ensures .0) at (failed (c .before .complete .ensures) (c .if2 .taken)))))
+returns_2 : tie.Need-returns-2
+returns_2 c = sym (fails _ (λ w. never_both (complete_test _ _ (holds_facts _ w).shape.complete) (rw c.before.before.starts-at.ensures.0 at (failed c.before.complete.ensures c.if2.true))))
 
 two-way-requires : tie.Need-two-way-requires
-two-way-requires c κs = complete-facts _ _ (passed (c .before .complete .ensures) (c .if2 .left))
+two-way-requires c κs = complete_facts _ _ (passed c.before.complete.ensures c.if2.false)
 
 returns-3 : tie.Need-returns-3
-returns-3 c = sym (fails _ (λ w. let h = holds-facts _ w in never-both (two-way-test _ _ (h .shape .rows) (h .mirrored)) (rw (c .before .before .before .before .starts-at .ensures .0) at (failed (c .before .two-way .ensures) (c .if3 .taken)))))
+returns-3 c = sym (fails _ (λ w. let h = holds_facts _ w in never_both (two_way_test _ _ h.shape.rows h.mirrored) (rw c.before.before.before.before.starts-at.ensures.0 at (failed c.before.two_way_lem.ensures c.if3.true))))
 
 -- where needs are tested, the table is complete and its rows are right
 abbrev entered : tie.Else3 → tie.After-complete
-entered d = d .before .before .before
+entered d = d.before.before.before
 
-is-complete : (d : tie.Else3) → complete (entered d .before .starts-at .result) (entered d .before .before .before .before .args .table .now) ≡ true
-is-complete d = passed (entered d .complete .ensures) (d .before .before .if2 .left)
+is_complete : (d : tie.Else3) → complete (entered d).before.starts-at.result (entered d).before.before.before.before.args.table.now ≡ true
+is_complete d = passed (entered d).complete.ensures d.before.before.if2.false
 
-is-two-way : (d : tie.Else3) → twoWay (entered d .before .starts-at .result) (entered d .before .before .before .before .args .table .now) ≡ true
-is-two-way d = passed (d .before .two-way .ensures) (d .if3 .left)
+is_two_way : (d : tie.Else3) → two_way (entered d).before.starts-at.result (entered d).before.before.before.before.args.table.now ≡ true
+is_two_way d = passed d.before.two_way_lem.ensures d.if3.false
 
 needs-requires : tie.Need-needs-requires
-needs-requires c κs = let z = complete-facts _ _ (is-complete c) in omega arith
+needs-requires c κs = let z = complete_facts _ _ (is_complete c) in omega arith
 
 weights-requires : tie.Need-weights-requires
-weights-requires c κs = let z = complete-facts _ _ (is-complete (c .before)) in omega (arith, entered (c .before) .before .starts-at .ensures .0)
+weights-requires c κs = let z = complete_facts _ _ (is_complete c.before) in omega (arith, (entered c.before).before.starts-at.ensures.0)
 
 starts-requires : tie.Need-starts-requires
-starts-requires c κs = complete-facts _ _ (is-complete (c .before .before))
+starts-requires c κs = complete_facts _ _ (is_complete c.before.before)
 
 valid-buses-requires : tie.Need-valid-buses-requires
 valid-buses-requires c κs =
-    let d = c .before .before .before in
-    steps-read _ (entered d .before .starts-at .ensures .0) (c .starts .ensures) (c .before .before .needs .ensures) (c .before .weights .ensures) (is-complete d) (is-two-way d)
+    let d = c.before.before.before in
+    steps_read _ (entered d).before.starts-at.ensures.0 c.starts.ensures c.before.before.needs.ensures c.before.weights.ensures (is_complete d) (is_two_way d)
 
 returns-4 : tie.Need-returns-4
 returns-4 c =
-    let e = c .before in
-    let d = e .before .before .before in
-    holds-read _ (entered d .before .starts-at .ensures .0) (e .starts .ensures) (e .before .before .needs .ensures) (e .before .weights .ensures) (is-complete d) (is-two-way d) (c .valid-buses .ensures)
+    let e = c.before in
+    let d = e.before.before.before in
+    holds_read _ (entered d).before.starts-at.ensures.0 e.starts.ensures e.before.before.needs.ensures e.before.weights.ensures (is_complete d) (is_two_way d) c.valid-buses.ensures
 
 pub holds-spec : {M : Type 1} → statement M
 holds-spec =
     tie.close
     (tie.spec
     returns
-    (λ c κs. search needs)
-    (λ c κs. search needs)
-    returns-2
+    (λ c κs. search rules)
+    (λ c κs. search rules)
+    returns_2
     two-way-requires
     returns-3
     needs-requires

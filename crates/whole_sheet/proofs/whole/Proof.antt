@@ -1,57 +1,57 @@
 -- `whole_sheet::whole` meets its contract.
-use borrow.Author.Needs.{needs}
+use borrow.Author.Rules.{rules}
 use native.Mathlib.Omega.{arith}
 use mathlib.Core.Bool.{true}
-use mathlib.Core.Path.{_≡_, ap}
+use mathlib.Core.Path.{◌≡◌, ap}
 use Prim.Native.Nat.{ℕ}
 use lib.ListN.{length, take, replicate, length-replicate}
-use Rattle·lists.specs.Tests.{passed, failed}
-use Rattle·lists.specs.Writes.{written-front}
-use Rattle·table_spec.specs.Holds.{holds}
-use Rattle·table_spec.specs.Facts.{holds-facts}
-use Rattle·table_spec.specs.TableCauses.{on-held}
-use Rattle·two_way.specs.TwoWay.{networkOf}
-use Rattle·sheet.specs.LineDue.{due-text}
-use Rattle·whole_sheet·specs.specs.WholeSheet.{wholeSheet}
-use Rattle·whole_sheet·specs.specs.SheetRoom.{longestSheet}
-use Rattle·whole_sheet·specs.specs.SheetDue.{sheet-due, none-held}
-use Rattle·whole_sheet·proofs.proofs.whole.Statement.{statement}
-use Rattle·whole_sheet·proofs.proofs.whole.Tie as tie
+use Rattle.lists.proofs.Tests.{passed, failed}
+use Rattle.lists.proofs.Writes.{written-front}
+use Rattle.table_spec.specs.Holds.{holds}
+use Rattle.table_spec.proofs.Facts.{holds_facts}
+use Rattle.table_spec.proofs.TableCauses.{on_held}
+use Rattle.two_way.specs.TwoWay.{network_of}
+use Rattle.sheet.proofs.LineDue.{due_text}
+use Rattle.whole_sheet.specs.WholeSheet.{whole_sheet}
+use Rattle.whole_sheet.specs.SheetRoom.{longest_sheet}
+use Rattle.whole_sheet.proofs.SheetDue.{sheet_due, none_held}
+use Rattle.whole_sheet.proofs.whole.Statement.{statement}
+use Rattle.whole_sheet.proofs.whole.Tie as tie
 
 -- the slice holds a network
-held : (c : tie.Else1) → holds (c .before .before .before .before .args .table .now) ≡ true
-held c = passed (c .before .holds .ensures) (c .if1 .left)
+held : (c : tie.Else1) → holds c.before.before.before.before.args.table.now ≡ true
+held c = passed c.before.holds.ensures c.if1.false
 
 write-sheet-requires : tie.Need-write-sheet-requires
-write-sheet-requires c κs = (holds-facts _ (held (c .before)), omega (arith, length-replicate {A = ℕ} longestSheet 0))
+write-sheet-requires c κs = (holds_facts _ (held c.before), omega (arith, length-replicate {A = ℕ} longest_sheet 0))
 
 -- the sheet was written aside
-aside : (c : tie.After-write-sheet) → take (c .write-sheet .result) (c .write-sheet .last .1 .0) ≡ wholeSheet (networkOf (c .before .before .before .before .before .before .args .table .now))
-aside c = written-front _ (replicate longestSheet 0) (c .write-sheet .ensures .0)
+aside : (c : tie.After-write-sheet) → take c.write-sheet.result c.write-sheet.new.1.0 ≡ whole_sheet (network_of c.before.before.before.before.before.before.args.table.now)
+aside c = written-front _ (replicate longest_sheet 0) c.write-sheet.ensures.0
 
 returns : tie.Need-returns
-returns c = none-held (networkOf (c .before .before .before .before .args .table .now)) _ (failed (c .before .holds .ensures) (c .if1 .taken))
+returns c = none_held (network_of c.before.before.before.before.args.table.now) _ (failed c.before.holds.ensures c.if1.true)
 
 slice-aggregate-copy-text : tie.Need-slice-aggregate-copy-text
-slice-aggregate-copy-text c = let w = c .before .before in omega (arith, w .write-sheet .ensures .0 .0, ap length (aside w))
+slice-aggregate-copy-text c = let w = c.before.before in omega (arith, w.write-sheet.ensures.0.0, ap length (aside w))
 
-returns-2 : tie.Need-returns-2
-returns-2 c =
-    let p = c .before .before in
-    let w = p .before .before .before .before in
-    let a = w .before .before .before .before .before .before .args in
-    sheet-due (networkOf (a .table .now)) (a .out .now) (on-held (held (w .before .before)) (due-text _ _ (aside w) (p .copy-text .ensures)))
+returns_2 : tie.Need-returns-2
+returns_2 c =
+    let p = c.before.before in
+    let w = p.before.before.before.before in
+    let a = w.before.before.before.before.before.before.args in
+    sheet_due (network_of a.table.now) a.out.now (on_held (held w.before.before) (due_text _ _ (aside w) p.copy-text.ensures))
 
 pub whole-spec : {M : Type 1} → statement M
 whole-spec =
     tie.close
     (tie.spec
-    (λ c κs. search needs)
+    (λ c κs. search rules)
     returns
-    (λ c. search needs)
+    (λ c. search rules)
     write-sheet-requires
-    (λ c. search needs)
+    (λ c. search rules)
     slice-aggregate-copy-text
-    (λ c κs. search needs)
-    (λ c. search needs)
-    returns-2)
+    (λ c κs. search rules)
+    (λ c. search rules)
+    returns_2)

@@ -1,51 +1,51 @@
 -- `writer::all_ones` meets its contract. The loop's invariant: the weights passed are 1.
-use borrow.Author.Needs.{needs}
-use borrow.Author.Tests.{eq-eqb, ne-eqb}
+use borrow.Author.Rules.{rules}
+use borrow.Author.Tests.{eq-eqb, ne_eqb}
 use mathlib.Core.Bool.{true}
-use mathlib.Core.Path.{_≡_, sym, _∙_}
-use Prim.Native.Nat.{_-_, _≤_}
+use mathlib.Core.Path.{◌≡◌, sym, ◌∙◌}
+use Prim.Native.Nat.{◌-◌, ◌≤◌}
 use lib.Dec.{eqb}
 use lib.ListN.{length}
-use Rattle·lists.specs.Lists.{at}
-use Rattle·lists.specs.Below.{allBelow}
-use Rattle·lists.specs.Loops.{allBelow-start, allBelow-more, allBelow-fails, allBelow-done}
-use Rattle·write_spec.specs.FileOf.{allOnes}
-use Rattle·writer·proofs.proofs.all_ones.Statement.{statement}
-use Rattle·writer·proofs.proofs.all_ones.Tie as tie
+use Rattle.lists.specs.Lists.{at}
+use Rattle.lists.specs.Below.{all_below}
+use Rattle.lists.proofs.Loops.{all_below_start, all_below_more, all_below_fails, all_below_done}
+use Rattle.write_spec.specs.FileOf.{all_ones}
+use Rattle.writer.proofs.all_ones.Statement.{statement}
+use Rattle.writer.proofs.all_ones.Tie as tie
 
-abbrev Inv-loop : tie.InvT-loop
-Inv-loop weights bus₀ bus = (bus ≤ length weights) × (allBelow bus (λ i. eqb (at weights i) 1) ≡ true)
+abbrev invariant-loop : tie.invariant-loop
+invariant-loop weights bus₀ bus = (bus ≤ length weights) × (all_below bus (λ i. eqb (at weights i) 1) ≡ true)
 
-abbrev μ-loop : tie.MeasureT-loop
-μ-loop weights bus₀ bus = length weights - bus
+abbrev decreases-loop : tie.decreases-loop
+decreases-loop weights bus₀ bus = length weights - bus
 
-loop-holds : tie.Need-loop-holds Inv-loop μ-loop
-loop-holds c = (search needs, allBelow-start _)
+loop-holds : tie.Need-loop-init invariant-loop decreases-loop
+loop-holds c = (search rules, all_below_start _)
 
-returns : tie.Need-returns Inv-loop μ-loop
-unfolding allOnes
+returns : tie.Need-returns invariant-loop decreases-loop
+unfolding all_ones
 returns c =
-    let p = c .before in sym (allBelow-fails _ _ _ (p .before .loop-test .taken) (ne-eqb _ 1 (λ e. c .if1 .taken (p .entry .ensures .0 ∙ e))))
+    let p = c.before in sym (all_below_fails _ _ _ p.before.loop-test.true (ne_eqb _ 1 (λ e. c.if1.true (p.entry.ensures.0 ∙ e))))
 
-loop-again : tie.Need-loop-again Inv-loop μ-loop
+loop-again : tie.Need-loop-preserved invariant-loop decreases-loop
 loop-again c =
-    let p = c .before in
-    (search needs, allBelow-more _ _ (p .before .before .loop .inv .1) (eq-eqb _ 1 (sym (p .entry .ensures .0) ∙ c .if1 .left)))
+    let p = c.before in
+    (search rules, all_below_more _ _ p.before.before.loop.invariant.1 (eq-eqb _ 1 (sym p.entry.ensures.0 ∙ c.if1.false)))
 
-returns-2 : tie.Need-returns-2 Inv-loop μ-loop
-unfolding allOnes
-returns-2 c = sym (allBelow-done _ _ _ (c .before .loop .inv .1) (c .before .loop .inv .0) (c .loop-test .left))
+returns_2 : tie.Need-returns-2 invariant-loop decreases-loop
+unfolding all_ones
+returns_2 c = sym (all_below_done _ _ _ c.before.loop.invariant.1 c.before.loop.invariant.0 c.loop-test.false)
 
 pub all-ones-spec : {M : Type 1} → statement M
 all-ones-spec =
     tie.close
     (tie.spec
-    Inv-loop
-    μ-loop
+    invariant-loop
+    decreases-loop
     loop-holds
-    (λ c κs. search needs)
+    (λ c κs. search rules)
     returns
-    (λ c. search needs)
-    (λ c. search needs)
+    (λ c. search rules)
+    (λ c. search rules)
     loop-again
-    returns-2)
+    returns_2)

@@ -1,31 +1,31 @@
 -- `bench_cases::cases::changed` meets its contract: the last change lies among the entries passed.
-use borrow.Author.Needs.{needs}
-use mathlib.Core.Logic.{⊎-elim}
-use Prim.Native.Nat.{_-_, _≤_}
+use borrow.Author.Rules.{rules}
+use mathlib.Core.Logic.{⊎_elim}
+use Prim.Native.Nat.{◌-◌, ◌≤◌}
 use lib.ListN.{length}
-use Rattle·bench_cases·proofs.proofs.cases.changed.Statement.{statement}
-use Rattle·bench_cases·proofs.proofs.cases.changed.Tie as tie
+use Rattle.bench_cases.proofs.cases.changed.Statement.{statement}
+use Rattle.bench_cases.proofs.cases.changed.Tie as tie
 
-abbrev Inv-loop : tie.InvT-loop
-Inv-loop entries end₀ i₀ end i = (i ≤ length entries) × (end ≤ i)
+abbrev invariant-loop : tie.invariant-loop
+invariant-loop entries end₀ i₀ end i = (i ≤ length entries) × (end ≤ i)
 
-abbrev μ-loop : tie.MeasureT-loop
-μ-loop entries end₀ i₀ end i = length entries - i
+abbrev decreases-loop : tie.decreases-loop
+decreases-loop entries end₀ i₀ end i = length entries - i
 
-loop-again : tie.Need-loop-again Inv-loop μ-loop
-loop-again c = ⊎-elim (λ w. search needs) (λ w. search needs) (c .if1 .came)
+loop-again : tie.Need-loop-preserved invariant-loop decreases-loop
+loop-again c = ⊎_elim (λ w. search rules) (λ w. search rules) c.if1.branch
 
 pub changed-spec : {M : Type 1} → statement M
 changed-spec =
     tie.close
     (tie.spec
-    Inv-loop
-    μ-loop
-    (λ c. search needs)
-    (λ c. search needs)
-    (λ c. search needs)
-    (λ c. search needs)
-    (λ c. search needs)
-    (λ c. search needs)
+    invariant-loop
+    decreases-loop
+    (λ c. search rules)
+    (λ c. search rules)
+    (λ c. search rules)
+    (λ c. search rules)
+    (λ c. search rules)
+    (λ c. search rules)
     loop-again
-    (λ c. search needs))
+    (λ c. search rules))

@@ -1,29 +1,28 @@
 -- `small_networks::average::value` meets its contract. The loop's invariant: it ends at the seventh bus at most.
-use borrow.Author.Needs.{needs}
-use Prim.Native.Nat.{_-_, _≤_}
-use Rattle·small_networks·specs.specs.SizeBounds.{most}
-use Rattle·small_networks·proofs.proofs.average.value.Statement.{statement}
-use Rattle·small_networks·proofs.proofs.average.value.Tie as tie
+use Rattle.std.proofs.Common.{◌-◌, ◌≤◌, rules}
+use Rattle.small_networks.specs.SizeBounds.{most}
+use Rattle.small_networks.proofs.average.value.Statement.{statement}
+use Rattle.small_networks.proofs.average.value.Tie as tie
 
-abbrev Inv-loop : tie.InvT-loop
-Inv-loop small fitted weights sum₀ bus₀ bus-end sum bus = (bus ≤ bus-end) × (bus-end ≤ most)
+abbrev invariant-loop : tie.invariant-loop
+invariant-loop small fitted weights sum₀ bus₀ bus-end sum bus = (bus ≤ bus-end) × (bus-end ≤ most)
 
-abbrev μ-loop : tie.MeasureT-loop
-μ-loop small fitted weights sum₀ bus₀ bus-end sum bus = bus-end - bus
+abbrev decreases-loop : tie.decreases-loop
+decreases-loop small fitted weights sum₀ bus₀ bus-end sum bus = bus-end - bus
 
-pub value-spec : {M : Type 1} → statement M
-value-spec =
+pub value_spec : {M : Type 1} → statement M
+value_spec =
     tie.close
     (tie.spec
-    Inv-loop
-    μ-loop
-    (λ c. search needs)
-    (λ c κs. search needs)
-    (λ c. search needs)
-    (λ c. search needs)
-    (λ c. search needs)
-    (λ c κs. search needs)
-    (λ c. search needs)
-    (λ c. search needs)
-    (λ c. search needs)
-    (λ c. search needs))
+    invariant-loop
+    decreases-loop
+    (λ c. search rules)
+    (λ c κs. search rules)
+    (λ c. search rules)
+    (λ c. search rules)
+    (λ c. search rules)
+    (λ c κs. search rules)
+    (λ c. search rules)
+    (λ c. search rules)
+    (λ c. search rules)
+    (λ c. search rules))

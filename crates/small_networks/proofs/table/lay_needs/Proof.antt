@@ -1,31 +1,30 @@
 -- `small_networks::table::lay_needs` meets its contract. The loop's invariant: it ends at the seventh bus at most.
-use borrow.Author.Needs.{needs}
-use Prim.Native.Nat.{_-_, _≤_}
-use Rattle·small_networks·specs.specs.SizeBounds.{most}
-use Rattle·small_networks·proofs.proofs.table.lay_needs.Statement.{statement}
-use Rattle·small_networks·proofs.proofs.table.lay_needs.Tie as tie
+use Rattle.std.proofs.Common.{◌-◌, ◌≤◌, rules}
+use Rattle.small_networks.specs.SizeBounds.{most}
+use Rattle.small_networks.proofs.table.lay_needs.Statement.{statement}
+use Rattle.small_networks.proofs.table.lay_needs.Tie as tie
 
-abbrev Inv-loop : tie.InvT-loop
-Inv-loop table₀ needs bus₀ bus-end table bus = (bus ≤ bus-end) × (bus-end ≤ most)
+abbrev invariant-loop : tie.invariant-loop
+invariant-loop table₀ rules bus₀ bus-end table bus = (bus ≤ bus-end) × (bus-end ≤ most)
 
-abbrev μ-loop : tie.MeasureT-loop
-μ-loop table₀ needs bus₀ bus-end table bus = bus-end - bus
+abbrev decreases-loop : tie.decreases-loop
+decreases-loop table₀ rules bus₀ bus-end table bus = bus-end - bus
 
 pub lay-needs-spec : {M : Type 1} → statement M
 lay-needs-spec =
     tie.close
     (tie.spec
-    Inv-loop
-    μ-loop
-    (λ c. search needs)
-    (λ c. search needs)
-    (λ c. search needs)
-    (λ c. search needs)
-    (λ c. search needs)
-    (λ c. search needs)
-    (λ c. search needs)
-    (λ c. search needs)
-    (λ c. search needs)
-    (λ c. search needs)
-    (λ c. search needs)
-    (λ c. search needs))
+    invariant-loop
+    decreases-loop
+    (λ c. search rules)
+    (λ c. search rules)
+    (λ c. search rules)
+    (λ c. search rules)
+    (λ c. search rules)
+    (λ c. search rules)
+    (λ c. search rules)
+    (λ c. search rules)
+    (λ c. search rules)
+    (λ c. search rules)
+    (λ c. search rules)
+    (λ c. search rules))

@@ -1,51 +1,51 @@
 -- `table_check::rows::spans` meets its contract.
-use borrow.Author.Needs.{needs}
+use borrow.Author.Rules.{rules}
 use native.Mathlib.Omega.{arith}
 use mathlib.Core.Path.{sym}
-use Prim.Native.Nat.{_-_, _≤_}
-use Rattle·lists.specs.Tests.{fails}
-use borrow.Author.Count.{below-more}
+use Prim.Native.Nat.{◌-◌, ◌≤◌}
+use Rattle.lists.proofs.Tests.{fails}
+use borrow.Author.Count.{below_more}
 use native.Mathlib.Nat.{not-suc-le-zero}
-use Rattle·table_spec.specs.Facts.{steps-facts, steps-test}
-use Rattle·table_spec.specs.Holds.{Steps}
-use Rattle·table_check·proofs.proofs.rows.spans.Statement.{statement}
-use Rattle·table_check·proofs.proofs.rows.spans.Tie as tie
+use Rattle.table_spec.proofs.Facts.{steps_facts, steps_test}
+use Rattle.table_spec.specs.Holds.{Steps}
+use Rattle.table_check.proofs.rows.spans.Statement.{statement}
+use Rattle.table_check.proofs.rows.spans.Tie as tie
 
-abbrev Inv-loop : tie.InvT-loop
-Inv-loop s n i₀ i = (i ≤ n) × Steps i s
+abbrev invariant-loop : tie.invariant-loop
+invariant-loop s n i₀ i = (i ≤ n) × Steps i s
 
-abbrev μ-loop : tie.MeasureT-loop
-μ-loop s n i₀ i = n - i
+abbrev decreases-loop : tie.decreases-loop
+decreases-loop s n i₀ i = n - i
 
-loop-holds : tie.Need-loop-holds Inv-loop μ-loop
-loop-holds c = (search needs, λ j b. absurd (not-suc-le-zero b))
+loop-holds : tie.Need-loop-init invariant-loop decreases-loop
+loop-holds c = (search rules, λ j b. absurd (not-suc-le-zero b))
 
-returns : tie.Need-returns Inv-loop μ-loop
-returns c = sym (fails _ (λ w. let z = steps-facts _ _ w _ (c .before .before .before .loop-test .taken) in omega arith))
+returns : tie.Need-returns invariant-loop decreases-loop
+returns c = sym (fails _ (λ w. let z = steps_facts _ _ w _ c.before.before.before.loop-test.true in omega arith))
 
-returns-2 : tie.Need-returns-2 Inv-loop μ-loop
-returns-2 c = sym (fails _ (λ w. let z = steps-facts _ _ w _ (c .before .before .before .before .loop-test .taken) in omega arith))
+returns_2 : tie.Need-returns-2 invariant-loop decreases-loop
+returns_2 c = sym (fails _ (λ w. let z = steps_facts _ _ w _ c.before.before.before.before.loop-test.true in omega arith))
 
-loop-again : tie.Need-loop-again Inv-loop μ-loop
-loop-again c = (search needs, below-more _ _ (c .before .before .before .before .before .loop .inv .1) (omega arith))
+loop-again : tie.Need-loop-preserved invariant-loop decreases-loop
+loop-again c = (search rules, below_more _ _ c.before.before.before.before.before.loop.invariant.1 (omega arith))
 
-returns-3 : tie.Need-returns-3 Inv-loop μ-loop
-returns-3 c = sym (steps-test _ _ (λ j b. c .before .loop .inv .1 j (omega arith)))
+returns-3 : tie.Need-returns-3 invariant-loop decreases-loop
+returns-3 c = sym (steps_test _ _ (λ j b. c.before.loop.invariant.1 j (omega arith)))
 
 pub spans-spec : {M : Type 1} → statement M
 spans-spec =
     tie.close
     (tie.spec
-    Inv-loop
-    μ-loop
+    invariant-loop
+    decreases-loop
     loop-holds
-    (λ c κs. search needs)
-    (λ c. search needs)
-    (λ c κs. search needs)
+    (λ c κs. search rules)
+    (λ c. search rules)
+    (λ c κs. search rules)
     returns
-    (λ c. search needs)
-    returns-2
-    (λ c. search needs)
-    (λ c. search needs)
+    (λ c. search rules)
+    returns_2
+    (λ c. search rules)
+    (λ c. search rules)
     loop-again
     returns-3)

@@ -1,19 +1,19 @@
 -- `table_check::rows::valid_row` meets its contract.
-use borrow.Author.Needs.{needs}
+use borrow.Author.Rules.{rules}
 use native.Mathlib.Omega.{arith}
-use mathlib.Core.Path.{_≡_, refl, sym, ap, _∙_}
-use Prim.Native.Nat.{ℕ, _+_, _-_, _≤_, _<_}
+use mathlib.Core.Path.{◌≡◌, refl, sym, ap, ◌∙◌}
+use Prim.Native.Nat.{ℕ, ◌+◌, ◌-◌, ◌≤◌, ◌<◌}
 use lib.ListN.{length}
-use Rattle·lists.specs.Lists.{at}
-use Rattle·lists.specs.Tests.{fails}
-use borrow.Author.Count.{below-more}
+use Rattle.lists.specs.Lists.{at}
+use Rattle.lists.proofs.Tests.{fails}
+use borrow.Author.Count.{below_more}
 use native.Mathlib.Nat.{not-suc-le-zero}
-use Rattle·table_spec.specs.Facts.{valid-facts, valid-test}
-use Rattle·table_spec.specs.Holds.{ValidRow}
+use Rattle.table_spec.proofs.Facts.{valid_facts, valid_test}
+use Rattle.table_spec.specs.Holds.{ValidRow}
 use mathlib.Core.List.{List}
-use mathlib.Core.Logic.{_⊎_, inl, inr, ⊎-elim}
-use Rattle·table_check·proofs.proofs.rows.valid_row.Statement.{statement}
-use Rattle·table_check·proofs.proofs.rows.valid_row.Tie as tie
+use mathlib.Core.Logic.{◌⊎◌, inl, inr, ⊎_elim}
+use Rattle.table_check.proofs.rows.valid_row.Statement.{statement}
+use Rattle.table_check.proofs.rows.valid_row.Tie as tie
 
 -- after k entries: they are valid and below `least`, which is 0 or next after one of them
 record Passed (n i : ℕ) (r : List ℕ) (k least : ℕ) : Type 0 where
@@ -29,59 +29,59 @@ module _ {n i : ℕ} {r : List ℕ} {k least j : ℕ} (w : Passed n i r k least)
   more : j < n → (j ≡ i → ⊥) → least ≤ j → Passed n i r (k + 1) (j + 1)
   more b d g =
       record {
-        each = below-more _ k (w .each) (omega arith, λ q. d (e ∙ q), λ p l. omega (arith, w .under p l));
-        under = below-more _ k (λ q l. omega (arith, w .under q l)) (omega arith);
+        each = below_more _ k w.each (omega arith, λ q. d (e ∙ q), λ p l. omega (arith, w.under p l));
+        under = below_more _ k (λ q l. omega (arith, w.under q l)) (omega arith);
         reached = inr (k, omega arith, ap (λ m. m + 1) e);
       }
 
   late : k < length r → j < least → ValidRow n i r → ⊥
-  late b g t = ⊎-elim (λ z. omega arith) (λ z. omega (arith, z .2, t .ascends (z .0) k (z .1) b)) (w .reached)
+  late b g t = ⊎_elim (λ z. omega arith) (λ z. omega (arith, z.2, t.ascends z.0 k z.1 b)) w.reached
 
 done : {n i : ℕ} {r : List ℕ} {k least : ℕ} → Passed n i r k least → length r ≤ k → ValidRow n i r
 done w g =
     record {
-      below = λ q l. w .each q (omega arith) .0;
-      others = λ q l. w .each q (omega arith) .1;
-      ascends = λ p q a l. w .each q (omega arith) .2 p a;
+      below = λ q l. (w.each q (omega arith)).0;
+      others = λ q l. (w.each q (omega arith)).1;
+      ascends = λ p q a l. (w.each q (omega arith)).2 p a;
     }
 
-abbrev Inv-loop : tie.InvT-loop
-Inv-loop r n i least₀ k₀ least k = (k ≤ length r) × Passed n i r k least
+abbrev invariant-loop : tie.invariant-loop
+invariant-loop r n i least₀ k₀ least k = (k ≤ length r) × Passed n i r k least
 
-abbrev μ-loop : tie.MeasureT-loop
-μ-loop r n i least₀ k₀ least k = length r - k
+abbrev decreases-loop : tie.decreases-loop
+decreases-loop r n i least₀ k₀ least k = length r - k
 
-loop-holds : tie.Need-loop-holds Inv-loop μ-loop
-loop-holds c = (search needs, none _ _ _)
+loop-holds : tie.Need-loop-init invariant-loop decreases-loop
+loop-holds c = (search rules, none _ _ _)
 
-returns : tie.Need-returns Inv-loop μ-loop
-returns c = sym (fails _ (λ w. let z = valid-facts _ _ _ w .below _ (c .before .before .loop-test .taken) in omega arith))
+returns : tie.Need-returns invariant-loop decreases-loop
+returns c = sym (fails _ (λ w. let z = (valid_facts _ _ _ w).below _ c.before.before.loop-test.true in omega arith))
 
-returns-2 : tie.Need-returns-2 Inv-loop μ-loop
-returns-2 c = sym (fails _ (λ w. valid-facts _ _ _ w .others _ (c .before .before .before .loop-test .taken) (omega arith)))
+returns_2 : tie.Need-returns-2 invariant-loop decreases-loop
+returns_2 c = sym (fails _ (λ w. (valid_facts _ _ _ w).others _ c.before.before.before.loop-test.true (omega arith)))
 
-returns-3 : tie.Need-returns-3 Inv-loop μ-loop
-returns-3 c = sym (fails _ (λ w. late (c .before .before .before .before .before .loop .inv .1) (c .before .before .before .entry .ensures .0) (c .before .before .before .before .loop-test .taken) (c .if3 .taken) (valid-facts _ _ _ w)))
+returns-3 : tie.Need-returns-3 invariant-loop decreases-loop
+returns-3 c = sym (fails _ (λ w. late c.before.before.before.before.before.loop.invariant.1 c.before.before.before.entry.ensures.0 c.before.before.before.before.loop-test.true c.if3.true (valid_facts _ _ _ w)))
 
-loop-again : tie.Need-loop-again Inv-loop μ-loop
-loop-again c = (search needs, more (c .before .before .before .before .before .loop .inv .1) (c .before .before .before .entry .ensures .0) (c .before .before .if1 .left) (c .before .if2 .left) (c .if3 .left))
+loop-again : tie.Need-loop-preserved invariant-loop decreases-loop
+loop-again c = (search rules, more c.before.before.before.before.before.loop.invariant.1 c.before.before.before.entry.ensures.0 c.before.before.if1.false c.before.if2.false c.if3.false)
 
-returns-4 : tie.Need-returns-4 Inv-loop μ-loop
-returns-4 c = sym (valid-test _ _ _ (done (c .before .loop .inv .1) (c .loop-test .left)))
+returns-4 : tie.Need-returns-4 invariant-loop decreases-loop
+returns-4 c = sym (valid_test _ _ _ (done c.before.loop.invariant.1 c.loop-test.false))
 
 pub valid-row-spec : {M : Type 1} → statement M
 valid-row-spec =
     tie.close
     (tie.spec
-    Inv-loop
-    μ-loop
+    invariant-loop
+    decreases-loop
     loop-holds
-    (λ c κs. search needs)
+    (λ c κs. search rules)
     returns
-    returns-2
+    returns_2
     returns-3
-    (λ c. search needs)
-    (λ c. search needs)
-    (λ c. search needs)
+    (λ c. search rules)
+    (λ c. search rules)
+    (λ c. search rules)
     loop-again
     returns-4)

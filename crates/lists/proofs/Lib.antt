@@ -1,0 +1,10 @@
+pub mod Counts
+pub mod JoinBelow
+pub mod ListBelow
+pub mod Loops
+pub mod Places
+pub mod Sums
+pub mod SumsBelow
+pub mod Tests
+pub mod Without
+pub mod Writes

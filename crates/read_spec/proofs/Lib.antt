@@ -1,0 +1,4 @@
+pub mod ReadDecides
+pub mod ReadFront
+pub mod ReadRoom
+pub mod Recorded

@@ -1,0 +1,3 @@
+pub mod Causes
+pub mod Due
+pub mod NumberLaws

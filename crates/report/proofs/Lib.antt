@@ -1,0 +1,2 @@
+pub mod PrintedFront
+pub mod Printing

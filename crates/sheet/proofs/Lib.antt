@@ -1,0 +1,4 @@
+pub mod BeyondLine
+pub mod LineDue
+pub mod LineFits
+pub mod LineWriting

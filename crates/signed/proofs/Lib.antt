@@ -1,0 +1,3 @@
+pub mod Differences
+pub mod SignedBits
+pub mod SignedLists

@@ -1,0 +1,3 @@
+pub mod FirstGame
+pub mod SameTable
+pub mod TwoWaySound

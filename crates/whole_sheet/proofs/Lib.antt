@@ -1,0 +1,4 @@
+pub mod BeyondSheet
+pub mod SheetDue
+pub mod SheetFits
+pub mod SheetWriting
