@@ -141,6 +141,37 @@ size_t share_sheet_max_file(void);
 /* Bytes of text that are enough for every sheet, and so for each of its lines. */
 size_t share_sheet_max_text(void);
 
+/* One-way lines: a recorder at the first bus of a record judges the second, and not the other way round.
+   Files have the same sections, and records ascend by first bus, then by second; either bus may be
+   the higher, both directions of a pair are two lines, and equal records are one. In a table row i
+   lists the buses that lead into bus i, with no mirrored entry, so that it takes 3n + 2 + m entries.
+   Each call below is as the one of the same name without `one_way`, with these differences: the
+   degree of a bus is the number of buses that lead into it, and 7 and 17 go by it; 4 is for more
+   records than buses times lines at a bus; and 15 is only for a record that is below the one before
+   it. A table of two-way lines is also one of one-way lines, and has the same shares. The call that
+   writes a file takes some 26 KB of stack, and that for one share or one line some 5. */
+uint32_t share_sheet_one_way_read(const uint8_t *file, size_t file_len, uint16_t *table,
+                                  size_t table_len, size_t *buses, size_t *lines);
+uint32_t share_sheet_one_way_write(const uint16_t *table, size_t table_len, uint8_t *file,
+                                   size_t file_len, size_t *bytes);
+uint32_t share_sheet_one_way_degree(const uint16_t *table, size_t table_len, size_t bus,
+                                    size_t *degree);
+uint32_t share_sheet_one_way_row(const uint16_t *table, size_t table_len, size_t bus,
+                                 size_t *start, size_t *entries);
+uint32_t share_sheet_one_way_shares(const uint16_t *table, size_t table_len, uint64_t *numerators,
+                                    size_t numerators_len, uint64_t *over);
+uint32_t share_sheet_one_way_share(const uint16_t *table, size_t table_len, size_t bus,
+                                   uint64_t *numerator, uint64_t *over);
+uint32_t share_sheet_one_way_line(const uint16_t *table, size_t table_len, size_t line,
+                                  uint8_t *text, size_t text_len, size_t *bytes);
+uint32_t share_sheet_one_way_whole(const uint16_t *table, size_t table_len, uint8_t *text,
+                                   size_t text_len, size_t *bytes);
+
+/* The entries of the largest table of one-way lines, and the bytes of the largest file: so many are
+   always enough. */
+size_t share_sheet_one_way_max_entries(void);
+size_t share_sheet_one_way_max_bytes(void);
+
 #ifdef __cplusplus
 }
 #endif

@@ -1,2 +1,2 @@
 pub mod RecordLaws
-pub mod StoringRows
+pub mod CountedRecords

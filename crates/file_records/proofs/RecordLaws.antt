@@ -1,60 +1,50 @@
 -- What a record in order adds to counts and rows.
-use mathlib.Core.Bool.{true, false, cond, ◌&&◌}
+use mathlib.Core.Bool.{true, false, cond}
 use mathlib.Core.List.{List, [], ◌∷◌, ◌++◌}
 use mathlib.Core.Path.{◌≡◌, sym, ap, ◌∙◌}
 use Prim.Native.Nat.{ℕ, ◌+◌, ◌-◌, ◌≤◌, ◌<◌}
 use native.Mathlib.Omega.{arith}
-use borrow.Author.Tests.{ltb-true, eqb-true, eq-eqb, lt-ltb}
-use lib.Dec.{ltb, eqb}
+use lib.Dec.{eqb}
 use lib.ListN.{length, set, length-set}
 use Rattle.lists.specs.Lists.{indicator, at, Tabled}
-use Rattle.lists.proofs.Tests.{same_test, and_left, and_right, eqb_self}
+use Rattle.lists.proofs.Tests.{eqb_self}
 use Rattle.lists.proofs.Loops.{tabled_more}
 use Rattle.lists.proofs.JoinBelow.{length-join_below}
 use Rattle.table_spec.specs.Limits.{max_buses}
 use Rattle.row_builder.specs.GrowingRows.{AllZero, GrowingRows}
 use Rattle.row_builder.proofs.GrowingLaws.{length-grown, growing_same, growing_fits, growing_next}
-use Rattle.file_spec.specs.FileBytes.{first_end, second_end}
+use Rattle.file_spec.specs.FileBytes.{Ends}
 use Rattle.file_spec.specs.Records.{neighbours, repeats}
 use Rattle.file_spec.proofs.RecordPairs.{neighbours-none, neighbours-le, neighbours_again, neighbours_grows}
 use Rattle.file_spec.specs.OrderedRecords.{OrderedRecords}
 use Rattle.file_spec.proofs.OrderedRecords.{rows-le, repeats_by, repeats_facts, rows_grow}
 use Rattle.file_records.specs.RecordSteps.{equals_last, NeighbourCounts}
+use Rattle.file_records.proofs.CountedRecords.{equals_again}
 
 -- without records every count is 0
-pub counts-none : (n : ℕ) (r : List ℕ) {counts : List ℕ} → AllZero counts → NeighbourCounts n 0 r counts
+pub counts-none : (n : ℕ) (r : Ends) {counts : List ℕ} → AllZero counts → NeighbourCounts n 0 r counts
 counts-none n r z = record { size = z.size; each = λ i b. z.zero i ∙ sym (ap length (neighbours-none n r i)) }
 
 -- no count passes the limit of buses
-pub neighbour-count-le : {n k : ℕ} {r counts : List ℕ} → NeighbourCounts n k r counts → {i : ℕ} → i < n → at counts i ≤ n
-neighbour-count-le {n} {k} {r} w {i} b = omega (arith, w.each i b, neighbours-le n k r i)
+pub neighbour-count-le : {n : ℕ} (k : ℕ) (r : Ends) {counts : List ℕ} → NeighbourCounts n k r counts → {i : ℕ} → i < n → at counts i ≤ n
+neighbour-count-le {n} k r w {i} b = omega (arith, w.each i b, neighbours-le n k r i)
 
 -- all rows together have fewer numbers than a place can count
-room : {n m : ℕ} {r : List ℕ} → OrderedRecords n m r → {rows : ℕ → List ℕ} {next all : List ℕ} → GrowingRows n (λ i. length (neighbours n m r i)) rows next all
+room : {n m : ℕ} {r : Ends} → OrderedRecords n m r → {rows : ℕ → List ℕ} {next all : List ℕ} → GrowingRows n (λ i. length (neighbours n m r i)) rows next all
     → length all < 65535
 room {n} {m} {r} g w = omega (arith, w.wide, length-join_below n (neighbours n m r), rows-le g)
 
 -- a record that names a pair again changes none
-pub counts_again : {n k : ℕ} {r counts : List ℕ} → NeighbourCounts n k r counts → repeats r k ≡ true → NeighbourCounts n (k + 1) r counts
-counts_again {n} {k} {r} w h = record { size = w.size; each = λ i b. w.each i b ∙ sym (ap length (neighbours_again n k r h i)) }
+pub counts_again : {n : ℕ} (k : ℕ) (r : Ends) {counts : List ℕ} → NeighbourCounts n k r counts → repeats r k ≡ true → NeighbourCounts n (k + 1) r counts
+counts_again {n} k r w h = record { size = w.size; each = λ i b. w.each i b ∙ sym (ap length (neighbours_again n k r h i)) }
 
-module _ {n m : ℕ} {r : List ℕ} (g : OrderedRecords n m r) {k : ℕ} (l : k < m) where
+module _ {n m : ℕ} {r : Ends} (g : OrderedRecords n m r) {k : ℕ} (l : k < m) where
   -- a record names a pair again exactly if it equals the one before it
   pub repeats-last : equals_last r k ≡ repeats r k
-  unfolding equals_last
-  repeats-last =
-      let a = first_end r k in
-      let x = first_end r (k - 1) in
-      let c = second_end r k in
-      let y = second_end r (k - 1) in
-      same_test _ _
-      (λ t. let u = ltb-true 0 k (and_left (ltb 0 k) (eqb a x && eqb c y) t) in
-      let v = and_right (ltb 0 k) (eqb a x && eqb c y) t in
-      repeats_by r (k - 1) k (omega arith) (sym (eqb-true a x (and_left (eqb a x) (eqb c y) v))) (sym (eqb-true c y (and_right (eqb a x) (eqb c y) v))))
-      (λ t. let w = repeats_facts g k l t in rw (lt-ltb 0 k w.0, eq-eqb a x (sym w.1), eq-eqb c y (sym w.2)))
+  repeats-last = equals_again r k (λ p e f. repeats_by r (k - 1) k (omega arith) e f) (λ t. repeats_facts g k l t)
 
   -- its ends were read into a and c; where it names a new pair they get one another
-  module _ {a c : ℕ} (e : (a ≡ first_end r k) × (c ≡ second_end r k)) where
+  module _ {a c : ℕ} (e : (a ≡ r.first k) × (c ≡ r.second k)) where
     pub first_bus : a < n
     first_bus = omega (arith, e.0, (g.ends k l).0)
 

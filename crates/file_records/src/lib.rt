@@ -4,6 +4,7 @@ ghost use Rattle.lists.specs.Lists.{put};
 ghost use Rattle.lists.specs.Below.{join_below};
 ghost use Rattle.table_spec.specs.Layout.{laid};
 ghost use Rattle.row_builder.specs.GrowingRows.{AllZero, GrowingRows};
+ghost use Rattle.file_spec.specs.FileBytes.{ends_in};
 ghost use Rattle.file_spec.specs.Records.{neighbours, pair_count};
 ghost use Rattle.file_spec.specs.OrderedRecords.{OrderedRecords};
 ghost use Rattle.file_records.specs.RecordSteps.{equals_last, NeighbourCounts};
@@ -12,10 +13,10 @@ use file_sections::ends_of;
 use network::Network;
 use row_builder::{append, increment, store_starts};
 
-// Whether record k equals the one before it. Of records in order, only such a one names a pair again.
-fn equals_last(section: &[u8], k: usize) -> bool
+// Whether record k equals the one before it. Of records in order, only such a one names again what was named.
+pub fn equals_last(section: &[u8], k: usize) -> bool
     requires { 4 * k + 3 < length section.now }
-    ensures { result ≡ equals_last section.now k }
+    ensures { result ≡ equals_last (ends_in section.now) k }
 {
     if k == 0 {
         return false;
@@ -35,8 +36,8 @@ pub fn count_neighbours(
     m: usize,
     counts: &mut [u16; Network::BUSES],
 ) -> usize
-    requires { (4 * m ≤ length section.now) × OrderedRecords n m section.now × AllZero counts.old }
-    ensures { (result ≡ pair_count m section.now) × NeighbourCounts n m section.now counts.new }
+    requires { (4 * m ≤ length section.now) × OrderedRecords n m (ends_in section.now) × AllZero counts.old }
+    ensures { (result ≡ pair_count m (ends_in section.now)) × NeighbourCounts n m (ends_in section.now) counts.new }
 {
     let mut pairs = 0;
     let mut k = 0;
@@ -54,9 +55,9 @@ pub fn count_neighbours(
 
 // Writes the neighbours that m records give each of n buses into its row, where `next` says.
 fn fill_rows(section: &[u8], n: usize, m: usize, next: &mut [u16; Network::BUSES], rows: &mut [u16])
-    requires m_in_bounds { (4 * m ≤ length section.now) × OrderedRecords n m section.now }
-    requires growing_rows { GrowingRows n (λ i. length (neighbours n m section.now i)) (λ i. []) next.old rows.old }
-    ensures { rows.new ≡ join_below n (neighbours n m section.now) }
+    requires m_in_bounds { (4 * m ≤ length section.now) × OrderedRecords n m (ends_in section.now) }
+    requires growing_rows { GrowingRows n (λ i. length (neighbours n m (ends_in section.now) i)) (λ i. []) next.old rows.old }
+    ensures { rows.new ≡ join_below n (neighbours n m (ends_in section.now)) }
 {
     let mut k = 0;
     while k < m {
@@ -78,9 +79,9 @@ pub fn store_rows(
     table: &mut [u16],
     from: usize,
 )
-    requires m_in_bounds { (4 * m ≤ length section.now) × OrderedRecords n m section.now × NeighbourCounts n m section.now counts.old }
-    requires section_in_bounds { from + length (laid n (neighbours n m section.now)) ≤ length table.old }
-    ensures { table.new ≡ put table.old from (laid n (neighbours n m section.now)) }
+    requires m_in_bounds { (4 * m ≤ length section.now) × OrderedRecords n m (ends_in section.now) × NeighbourCounts n m (ends_in section.now) counts.old }
+    requires section_in_bounds { from + length (laid n (neighbours n m (ends_in section.now))) ≤ length table.old }
+    ensures { table.new ≡ put table.old from (laid n (neighbours n m (ends_in section.now))) }
 {
     let numbers = store_starts(counts, n, table, from);
     let first = from + n + 1;

@@ -2,13 +2,13 @@
 ghost use Rattle.std.specs.Prelude.{◌||◌, ◌++◌, ◌≡◌, ◌+◌, ◌*◌, ◌≤◌, ◌<◌, length};
 ghost use Rattle.lists.specs.Below.{map_below};
 ghost use Rattle.refusals.specs.Outcomes.{outcome};
-ghost use Rattle.table_spec.specs.Limits.{max_buses, max_lines};
+ghost use Rattle.table_spec.specs.Limits.{max_buses};
 ghost use Rattle.table_spec.specs.Holds.{needs_in_range, weights_in_range};
-ghost use Rattle.file_spec.specs.FileBytes.{word_at, file_bus_count, needs_end, need_bytes, file_line_count, records_end, records, first_end, second_end, file_weight_count, weight_bytes, weight_in};
+ghost use Rattle.file_spec.specs.FileBytes.{word_at, file_bus_count, needs_end, need_bytes, file_line_count, records_end, records, first_end, second_end, ends_in, file_weight_count, weight_bytes, weight_in};
 ghost use Rattle.file_spec.specs.Sections.{bus_section_causes, line_count_causes, missing_causes, weight_section_causes, end_causes, line_section_causes, counts, sections_outcome, two_buses, sound_ends};
 ghost use Rattle.file_spec.specs.SoundSections.{SoundSections};
-ghost use Rattle.file_spec.specs.RecordOrder.{turned, falls, out_of_order};
-ghost use Rattle.file_sections.specs.FileAnswers.{outcome_of_count, outcome_of_reading};
+ghost use Rattle.file_spec.specs.RecordOrder.{turned, falls, some_fall, out_of_order};
+ghost use Rattle.file_sections.specs.FileAnswers.{outcome_of_count, FitsTwoBytes, outcome_of_reading};
 
 pub use network::{Counts, Refusal};
 use network::{Network, within};
@@ -120,17 +120,17 @@ pub fn bus_section(file: &[u8]) -> Counted
     Counted::Is(n)
 }
 
-// The line count of a file of n buses, if it is sound.
-pub fn line_count(file: &[u8], n: usize) -> Counted
+// The line count of a file of n buses, if it is sound: there may be so many records.
+pub fn line_count(file: &[u8], n: usize, most: usize) -> Counted
     requires { (n ≡ file_bus_count file.now) × (n ≤ max_buses) }
-    ensures { outcome_of_count result ≡ outcome (line_count_causes file.now) (file_line_count file.now) }
+    ensures { (outcome_of_count result ≡ outcome (line_count_causes most file.now) (file_line_count file.now)) × FitsTwoBytes result }
 {
     let from = 2 + n;
     if file.len() < from + 2 {
         return Counted::Refused(Refusal::FileTooShort);
     }
     let m = word(file, from);
-    if !within(0, Network::LINES, m) {
+    if !within(0, most, m) {
         return Counted::Refused(Refusal::LineCount);
     }
     Counted::Is(m)
@@ -138,7 +138,7 @@ pub fn line_count(file: &[u8], n: usize) -> Counted
 
 // Where the m records of a file of n buses end, if they are complete.
 pub fn records_end(file: &[u8], n: usize, m: usize) -> Counted
-    requires { (n ≡ file_bus_count file.now) × (n ≤ max_buses) × (m ≡ file_line_count file.now) × (m ≤ max_lines) }
+    requires { (n ≡ file_bus_count file.now) × (n ≤ max_buses) × (m ≡ file_line_count file.now) × (m < 65536) }
     ensures { outcome_of_count result ≡ outcome (missing_causes file.now) (records_end file.now) }
 {
     let end = 2 + n + 2 + 4 * m;
@@ -165,7 +165,7 @@ fn weights_in_range(section: &[u8], n: usize) -> bool
 
 // The weight count of a file of n buses whose records end at place `from`, if the section of weights is sound and the file ends behind it.
 fn weight_section(file: &[u8], n: usize, from: usize) -> Counted
-    requires { (n ≡ file_bus_count file.now) × (n ≤ max_buses) × (from ≡ records_end file.now) × (file_line_count file.now ≤ max_lines) }
+    requires { (n ≡ file_bus_count file.now) × (n ≤ max_buses) × (from ≡ records_end file.now) × (file_line_count file.now < 65536) }
     ensures { outcome_of_count result ≡ outcome (weight_section_causes file.now) (file_weight_count file.now) }
 {
     let weights_at = from + 2;
@@ -190,7 +190,7 @@ fn weight_section(file: &[u8], n: usize, from: usize) -> Counted
 
 // Judges what follows the m records of a file of n buses, which end at place `from`: nothing, or a section of weights.
 pub fn judge_weights(file: &[u8], n: usize, m: usize, from: usize) -> Reading
-    requires { (n ≡ file_bus_count file.now) × (n ≤ max_buses) × (m ≡ file_line_count file.now) × (m ≤ max_lines) × (from ≡ records_end file.now) }
+    requires { (n ≡ file_bus_count file.now) × (n ≤ max_buses) × (m ≡ file_line_count file.now) × (m < 65536) × (from ≡ records_end file.now) }
     ensures { outcome_of_reading result ≡ outcome (end_causes file.now) (counts file.now) }
 {
     if file.len() <= from {
@@ -204,7 +204,7 @@ pub fn judge_weights(file: &[u8], n: usize, m: usize, from: usize) -> Reading
 
 // Judges where a file of n buses and m records ends.
 fn judge_end(file: &[u8], n: usize, m: usize) -> Reading
-    requires { (n ≡ file_bus_count file.now) × (n ≤ max_buses) × (m ≡ file_line_count file.now) × (m ≤ max_lines) }
+    requires { (n ≡ file_bus_count file.now) × (n ≤ max_buses) × (m ≡ file_line_count file.now) × (m < 65536) }
     ensures { outcome_of_reading result ≡ outcome (missing_causes file.now ++ end_causes file.now) (counts file.now) }
 {
     match records_end(file, n, m) {
@@ -214,23 +214,23 @@ fn judge_end(file: &[u8], n: usize, m: usize) -> Reading
 }
 
 // Judges what follows the needs of a file of n buses.
-fn judge_lines(file: &[u8], n: usize) -> Reading
+fn judge_lines(file: &[u8], n: usize, most: usize) -> Reading
     requires { (n ≡ file_bus_count file.now) × (n ≤ max_buses) }
-    ensures { outcome_of_reading result ≡ outcome (line_section_causes file.now) (counts file.now) }
+    ensures { outcome_of_reading result ≡ outcome (line_section_causes most file.now) (counts file.now) }
 {
-    match line_count(file, n) {
+    match line_count(file, n, most) {
         Counted::Refused(cause) => Reading::Refused(cause),
         Counted::Is(m) => judge_end(file, n, m),
     }
 }
 
-// Judges all of a file but what its records say. Gives its two counts; that of lines is how many records there are.
-pub fn judge(file: &[u8]) -> Reading
-    ensures { outcome_of_reading result ≡ sections_outcome file.now }
+// Judges all of a file but what its records say; there may be so many. Gives its two counts; that of lines is how many records there are.
+pub fn judge(file: &[u8], most: usize) -> Reading
+    ensures { outcome_of_reading result ≡ sections_outcome most file.now }
 {
     match bus_section(file) {
         Counted::Refused(cause) => Reading::Refused(cause),
-        Counted::Is(n) => judge_lines(file, n),
+        Counted::Is(n) => judge_lines(file, n, most),
     }
 }
 
@@ -261,7 +261,7 @@ fn two_buses(n: usize, a: usize, b: usize) -> bool
 // Whether each of m records names two different buses below n.
 pub fn sound_ends(section: &[u8], n: usize, m: usize) -> bool
     requires { 4 * m ≤ length section.now }
-    ensures { result ≡ sound_ends n m section.now }
+    ensures { result ≡ sound_ends n m (ends_in section.now) }
 {
     let mut k = 0;
     while k < m {
@@ -274,29 +274,53 @@ pub fn sound_ends(section: &[u8], n: usize, m: usize) -> bool
     true
 }
 
+// Whether record k, which has these ends, is below the one before it.
+fn falls(section: &[u8], k: usize, first: usize, second: usize) -> bool
+    requires { (4 * k + 3 < length section.now) × (first ≡ first_end section.now k) × (second ≡ second_end section.now k) }
+    ensures { result ≡ falls (ends_in section.now) k }
+{
+    if k == 0 {
+        return false;
+    }
+    let before = ends_of(section, k - 1);
+    if first == before.first {
+        return second < before.second;
+    }
+    first < before.first
+}
+
+// Whether one of m records is below the one before it.
+pub fn some_fall(section: &[u8], m: usize) -> bool
+    requires { 4 * m ≤ length section.now }
+    ensures { result ≡ some_fall m (ends_in section.now) }
+{
+    let mut k = 0;
+    while k < m {
+        let ends = ends_of(section, k);
+        if falls(section, k, ends.first, ends.second) {
+            return true;
+        }
+        k += 1;
+    }
+    false
+}
+
 // Whether record k is out of order: it names its higher bus first, or is below the one before it.
 fn misplaced(section: &[u8], k: usize) -> bool
     requires { 4 * k + 3 < length section.now }
-    ensures { result ≡ (turned section.now k || falls section.now k) }
+    ensures { result ≡ (turned (ends_in section.now) k || falls (ends_in section.now) k) }
 {
     let ends = ends_of(section, k);
     if ends.second < ends.first {
         return true;
     }
-    if k == 0 {
-        return false;
-    }
-    let before = ends_of(section, k - 1);
-    if ends.first == before.first {
-        return ends.second < before.second;
-    }
-    ends.first < before.first
+    falls(section, k, ends.first, ends.second)
 }
 
 // Whether one of m records is out of order.
 pub fn out_of_order(section: &[u8], m: usize) -> bool
     requires { 4 * m ≤ length section.now }
-    ensures { result ≡ out_of_order m section.now }
+    ensures { result ≡ out_of_order m (ends_in section.now) }
 {
     let mut k = 0;
     while k < m {

@@ -1,5 +1,9 @@
+pub mod AscendingRecords
+pub mod KindLaws
+pub mod OneWayRows
 pub mod OrderedRecords
 pub mod RecordNeighbours
 pub mod RecordPairs
+pub mod RecordRows
 pub mod SoundSections
 pub mod WeightBytes

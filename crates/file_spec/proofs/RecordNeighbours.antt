@@ -1,19 +1,16 @@
--- The neighbours that records give a bus: other buses of the network, ascending, where the ends are sound; and how many they may be.
-use Rattle.std.specs.Prelude.{Bool, true, false, List, ◌≡◌, ℕ, ◌≤◌, ◌<◌, ltb, length}
+-- The neighbours that records give a bus: other buses of the network, ascending, where the ends are sound.
+use Rattle.std.specs.Prelude.{true, ◌≡◌, ℕ, ◌<◌}
 use Rattle.std.proofs.Common.{⊎_elim, sym, ◌∙◌, arith}
-use borrow.Author.Tests.{ltb-true, ltb-false, le-ltb}
 use Rattle.lists.specs.Lists.{has}
-use Rattle.lists.proofs.Tests.{split, fails}
-use Rattle.lists.proofs.Loops.{any_below-none, any_below_fails}
-use Rattle.lists.proofs.ListBelow.{count-list_below, has-list_below, list_below_in, list_below_ascends}
-use Rattle.table_spec.specs.Limits.{max_degree}
 use Rattle.table_spec.specs.Holds.{ValidRow}
+use Rattle.file_spec.specs.FileBytes.{Ends}
 use Rattle.file_spec.specs.Sections.{sound_ends}
 use Rattle.file_spec.proofs.SoundSections.{ends_facts}
-use Rattle.file_spec.specs.Records.{joined, neighbours, degree_too_high}
+use Rattle.file_spec.specs.Records.{joins, joined, neighbours}
+use Rattle.file_spec.proofs.RecordRows.{row_valid, row_has}
 use Rattle.file_spec.proofs.RecordPairs.{joined_at}
 
-module _ (n m : ℕ) (r : List ℕ) (sound : sound_ends n m r ≡ true) where
+module _ (n m : ℕ) (r : Ends) (sound : sound_ends n m r ≡ true) where
   -- who is joined is a bus, and another one
   joined_buses : (i j : ℕ) → joined m r i j ≡ true → (j < n) × (j ≡ i → ⊥)
   joined_buses i j h =
@@ -25,32 +22,10 @@ module _ (n m : ℕ) (r : List ℕ) (sound : sound_ends n m r ≡ true) where
       w.2
 
   pub neighbours_valid : (i : ℕ) → ValidRow n i (neighbours n m r i)
-  unfolding neighbours
-  neighbours_valid i =
-      record {
-        below = λ k l. (list_below_in n (joined m r i) k l).0;
-        others = λ k l. (joined_buses i _ (list_below_in n (joined m r i) k l).1).1;
-        ascends = list_below_ascends n (joined m r i);
-      }
+  unfolding neighbours joined
+  neighbours_valid i = row_valid (joins r) n m i (λ j h. (joined_buses i j h).1)
 
   -- j stands in row i exactly if a record joins i and j
   pub neighbours-joined : (i j : ℕ) → has j (neighbours n m r i) ≡ joined m r i j
-  unfolding neighbours
-  neighbours-joined i j =
-      split (ltb j n)
-      (λ t. has-list_below (joined m r i) (ltb-true j n t))
-      (λ t. rw (count-list_below j n (joined m r i), t) (sym (fails (joined m r i j) (λ h. omega (arith, ltb-false j n t, (joined_buses i j h).0)))))
-
--- ---- degrees
-
-module _ (n m : ℕ) (r : List ℕ) where
-  abbrev too_many : ℕ → Bool
-  too_many b = ltb max_degree (length (neighbours n m r b))
-
-  pub degrees_test : ((i : ℕ) → i < n → length (neighbours n m r i) ≤ max_degree) → degree_too_high n m r ≡ false
-  unfolding degree_too_high
-  degrees_test h = any_below_fails too_many n (λ i l. le-ltb max_degree (length (neighbours n m r i)) (h i l))
-
-  pub neighbours-max-le : degree_too_high n m r ≡ false → (i : ℕ) → i < n → length (neighbours n m r i) ≤ max_degree
-  unfolding degree_too_high
-  neighbours-max-le h i l = ltb-false max_degree _ (any_below-none too_many n h l)
+  unfolding neighbours joined
+  neighbours-joined i j = row_has (joins r) n m i j (λ h. (joined_buses i j h).0)

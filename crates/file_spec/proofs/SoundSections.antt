@@ -13,10 +13,10 @@ use Rattle.lists.proofs.Places.{length_part}
 use Rattle.refusals.specs.Outcomes.{gives, outcome}
 use Rattle.refusals.specs.Causes.{NoneHolds, numbered}
 use Rattle.refusals.proofs.Causes.{none_both, none-numbered}
-use Rattle.table_spec.specs.Limits.{max_buses, max_lines, max_bytes}
+use Rattle.table_spec.specs.Limits.{max_buses, most_bytes}
 use Rattle.table_spec.specs.Holds.{weights_in_range}
-use Rattle.table_spec.proofs.Facts.{within_facts, within_test}
-use Rattle.file_spec.specs.FileBytes.{file_bus_count, needs_end, need_bytes, file_line_count, records_at, records_end, records, first_end, second_end, file_weight_count, weights_at, weights_end, weight_bytes, file_weights}
+use Rattle.table_spec.proofs.Facts.{within_facts, within-test}
+use Rattle.file_spec.specs.FileBytes.{file_bus_count, needs_end, need_bytes, file_line_count, records_at, records_end, records, Ends, file_weight_count, weights_at, weights_end, weight_bytes, file_weights}
 use Rattle.file_spec.proofs.WeightBytes.{ones_range, weight_bytes-none, length-weight_bytes}
 use Rattle.file_spec.specs.Sections.{ends_before, goes_on, bus_section_causes, line_count_causes, missing_causes, weight_section_causes, end_causes, line_section_causes, section_causes, counts, sections_outcome, two_buses, sound_ends}
 use Rattle.file_spec.specs.SoundSections.{CompleteWeights, SoundBusSection, SoundEnds, SoundSections, SoundWeightSection, TwoBuses}
@@ -29,8 +29,8 @@ module _ (f : List ℕ) where
       let n = within_facts 1 max_buses (file_bus_count f) (not-false _ z.1.0) in
       record { positive = n.0; buses = n.1; complete = let h = ltb-false (length f) _ z.1.1.0 in omega arith; needs = not-false _ z.1.1.1.0 }
 
-  pub lines_passed : NoneHolds (line_count_causes f) → file_line_count f ≤ max_lines
-  lines_passed z = (within_facts 0 max_lines (file_line_count f) (not-false _ z.1.0)).1
+  lines_passed : (most : ℕ) → NoneHolds (line_count_causes most f) → file_line_count f ≤ most
+  lines_passed most z = (within_facts 0 most (file_line_count f) (not-false _ z.1.0)).1
 
   pub records_passed : NoneHolds (missing_causes f) → records_end f ≤ length f
   unfolding ends_before
@@ -53,13 +53,13 @@ module _ (f : List ℕ) where
       (λ l. absurd (omega arith), ones_range (weight_bytes f) (ap length (weight_bytes-none f (omega arith))) (file_bus_count f)))
 
   -- a file that no cause refuses
-  pub sections_passed : NoneHolds (section_causes f) → SoundSections f
-  sections_passed z =
-      let a = none_both (bus_section_causes f) (line_section_causes f) z in
-      let b = none_both (line_count_causes f) (missing_causes f ++ end_causes f) a.1 in
+  pub sections_passed : (most : ℕ) → NoneHolds (section_causes most f) → SoundSections f × (file_line_count f ≤ most)
+  sections_passed most z =
+      let a = none_both (bus_section_causes f) (line_section_causes most f) z in
+      let b = none_both (line_count_causes most f) (missing_causes f ++ end_causes f) a.1 in
       let c = none_both (missing_causes f) (end_causes f) b.1 in
       let w = end_passed c.1 in
-      record { first = buses_passed a.0; lines = lines_passed b.0; complete = records_passed c.0; third = w.0; weights = w.1 }
+      (record { first = buses_passed a.0; complete = records_passed c.0; third = w.0; weights = w.1 }, lines_passed most b.0)
 
 module _ {f : List ℕ} (s : SoundSections f) where
   -- and a file whose sections are sound is not refused because of them
@@ -78,13 +78,13 @@ module _ {f : List ℕ} (s : SoundSections f) where
       ))
       (λ e. rw e)
 
-  pub sections_test : sections_outcome f ≡ gives (counts f)
+  pub sections_test : (most : ℕ) → file_line_count f ≤ most → sections_outcome most f ≡ gives (counts f)
   unfolding ends_before
-  sections_test =
+  sections_test most l =
       let reaches : (i : ℕ) → i ≤ records_end f → ltb (length f) i ≡ false = λ i h. le-ltb (length f) i (omega (arith, s.complete)) in
       simp (
-        within_test 1 max_buses (file_bus_count f) s.first.positive s.first.buses,
-        within_test 0 max_lines (file_line_count f) (omega arith) s.lines,
+        within-test 1 max_buses (file_bus_count f) s.first.positive s.first.buses,
+        within-test 0 most (file_line_count f) (omega arith) l,
         s.first.needs,
         reaches 2 (omega arith),
         reaches (needs_end f) (omega arith),
@@ -116,8 +116,8 @@ module _ {f : List ℕ} (s : SoundSections f) where
       ends
 
   -- and is not longer than the limit says
-  pub bytes_le : length f ≤ max_bytes
-  bytes_le = ⊎_elim (λ e. omega (arith, s.first.buses, s.lines)) (λ w. omega (arith, w.size, s.first.buses, s.lines)) ends
+  pub bytes_le : (most : ℕ) → file_line_count f ≤ most → length f ≤ most_bytes most
+  bytes_le most l = ⊎_elim (λ e. omega (arith, s.first.buses)) (λ w. omega (arith, w.size, s.first.buses)) ends
 
 -- ---- the ends of records
 
@@ -135,11 +135,11 @@ module _ (n a b : ℕ) where
   unfolding two_buses
   two_test h = rw (lt-ltb a n h.0, lt-ltb b n h.1, ne_eqb a b h.2)
 
-module _ (n m : ℕ) (r : List ℕ) where
+module _ (n m : ℕ) (r : Ends) where
   pub ends_facts : sound_ends n m r ≡ true → SoundEnds n m r
   unfolding sound_ends
-  ends_facts w k l = two_facts n (first_end r k) (second_end r k) (all_below-at _ m w l)
+  ends_facts w k l = two_facts n (r.first k) (r.second k) (all_below-at _ m w l)
 
   pub ends_test : SoundEnds n m r → sound_ends n m r ≡ true
   unfolding sound_ends
-  ends_test h = all_below_by _ m (λ k l. two_test n (first_end r k) (second_end r k) (h k l))
+  ends_test h = all_below_by _ m (λ k l. two_test n (r.first k) (r.second k) (h k l))

@@ -9,7 +9,7 @@ use Rattle.lists.proofs.Places.{length_part}
 use Rattle.lists.proofs.JoinBelow.{length-map_below, map_below-at}
 use Rattle.table_spec.specs.Limits.{max_weight}
 use Rattle.table_spec.specs.Holds.{within, in_range, weights_in_range}
-use Rattle.table_spec.proofs.Facts.{within_test}
+use Rattle.table_spec.proofs.Facts.{within-test}
 use Rattle.file_spec.specs.FileBytes.{word_at, file_bus_count, records_end, weights_at, weights_end, weight_bytes, weight_in, file_weights}
 
 module _ (b : List ℕ) where
@@ -30,7 +30,7 @@ module _ (b : List ℕ) where
 
   -- as they are where there are no bytes
   pub ones_range : length b ≡ 0 → (n : ℕ) → weights_in_range (map_below n (weight_in b)) ≡ true
-  ones_range e n = weights-range n ∙ all_below_by _ n (λ i l. rw (weight-none e i) (within_test 1 max_weight 1 (omega arith) (omega arith)))
+  ones_range e n = weights-range n ∙ all_below_by _ n (λ i l. rw (weight-none e i) (within-test 1 max_weight 1 (omega arith) (omega arith)))
 
 no_entries : (l : List ℕ) → length l ≡ 0 → l ≡ []
 no_entries [] e = refl

@@ -40,6 +40,18 @@ first_end r k = word_at r (4 * k)
 abbrev pub second_end : List ℕ → ℕ → ℕ
 second_end r k = word_at r (4 * k + 2)
 
+-- what records say goes by the two bus numbers of each, however many bytes a record has
+pub record Ends : Type 0 where
+  pub first : ℕ → ℕ
+  pub second : ℕ → ℕ
+
+-- those of records of four bytes
+abbrev pub ends_in : List ℕ → Ends
+ends_in r = record { first = first_end r; second = second_end r }
+
+abbrev pub file_ends : List ℕ → Ends
+file_ends f = ends_in (records f)
+
 -- behind the records the weight count, if the file goes on there
 abbrev pub file_weight_count : List ℕ → ℕ
 file_weight_count f = word_at f (records_end f)

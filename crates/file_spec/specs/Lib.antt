@@ -5,6 +5,12 @@ pub mod SectionExamples
 pub mod SoundSections
 pub mod RecordOrder
 pub mod Records
+pub mod OneWayRecords
+pub mod Kinds
 pub mod RecordExamples
+pub mod KindExamples
+pub mod RecordRows
 pub mod RecordPairs
+pub mod AscendingRecords
 pub mod OrderedRecords
+pub mod KindLaws

@@ -1,8 +1,7 @@
 -- Laws of the pairs that records join.
-use Rattle.std.specs.Prelude.{List, ◌⊎◌, ◌≡◌}
-use Prim.Native.Nat.{ℕ}
-use Rattle.file_spec.specs.FileBytes.{first_end, second_end}
+use Rattle.std.specs.Prelude.{◌⊎◌, ◌≡◌, ℕ}
+use Rattle.file_spec.specs.FileBytes.{Ends}
 
 -- the ends of a record that joins i and j
-abbrev pub EndsAre : List ℕ → ℕ → ℕ → ℕ → Type 0
-EndsAre r i j k = ((first_end r k ≡ i) × (second_end r k ≡ j)) ⊎ ((first_end r k ≡ j) × (second_end r k ≡ i))
+abbrev pub EndsAre : Ends → ℕ → ℕ → ℕ → Type 0
+EndsAre r i j k = ((r.first k ≡ i) × (r.second k ≡ j)) ⊎ ((r.first k ≡ j) × (r.second k ≡ i))

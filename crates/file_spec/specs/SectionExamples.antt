@@ -3,8 +3,9 @@ use Rattle.std.specs.Prelude.{true, false, List, [], ◌∷◌, ◌++◌, map, �
 use Rattle.lists.specs.Lists.{at}
 use Rattle.lists.specs.Below.{all_below, join_below, map_below}
 use Rattle.refusals.specs.Outcomes.{gives, refuses}
+use Rattle.table_spec.specs.Limits.{max_lines}
 use Rattle.table_spec.specs.Holds.{within, in_range}
-use Rattle.file_spec.specs.FileBytes.{word_at, need_bytes, records, first_end, second_end, weight_bytes, weight_in, file_weights}
+use Rattle.file_spec.specs.FileBytes.{word_at, need_bytes, records, first_end, second_end, ends_in, weight_bytes, weight_in, file_weights}
 use Rattle.file_spec.specs.Sections.{ends_before, goes_on, sections_outcome, two_buses, sound_ends}
 
 -- the scope's Path but for its last byte
@@ -34,13 +35,13 @@ path_ends = (refl, refl)
 
 -- Path without weights, with weights from 1 to 1,000, and with a section of all ones
 path-read :
-    map sections_outcome (path ∷ weighted 3 (1 ∷ 0 ∷ 232 ∷ 3 ∷ 244 ∷ 1 ∷ []) ∷ weighted 3 (1 ∷ 0 ∷ 1 ∷ 0 ∷ 1 ∷ 0 ∷ []) ∷ [])
+    map (sections_outcome max_lines) (path ∷ weighted 3 (1 ∷ 0 ∷ 232 ∷ 3 ∷ 244 ∷ 1 ∷ []) ∷ weighted 3 (1 ∷ 0 ∷ 1 ∷ 0 ∷ 1 ∷ 0 ∷ []) ∷ [])
     ≡ replicate 3 (gives (record { buses = 3; lines = 2 }))
 unfolding weighted path cut need_bytes weight_bytes weight_in word_at at ends_before goes_on within in_range all_below map_below join_below
 path-read = refl
 
 refused :
-    map sections_outcome
+    map (sections_outcome max_lines)
     (
     -- an empty file; one byte
     []
@@ -64,7 +65,7 @@ unfolding cut need_bytes word_at at ends_before goes_on within in_range all_belo
 refused = refl
 
 weights-refused :
-    map sections_outcome
+    map (sections_outcome max_lines)
     (
     -- Path with one byte more, where the weight count is cut; a count of 2, of 4 and of 0, with so many weights or with three
     (path ++ 0 ∷ [])
@@ -88,12 +89,12 @@ unfolding weighted path cut need_bytes weight_bytes weight_in word_at at ends_be
 weights-refused = refl
 
 -- a need of 24 is allowed, and so are 512 buses and 5,888 lines: what is missing is what follows them
-allowed : map sections_outcome ((1 ∷ 0 ∷ 24 ∷ []) ∷ (0 ∷ 2 ∷ []) ∷ (1 ∷ 0 ∷ 1 ∷ 0 ∷ 23 ∷ []) ∷ []) ≡ map refuses (1 ∷ 1 ∷ 1 ∷ [])
+allowed : map (sections_outcome max_lines) ((1 ∷ 0 ∷ 24 ∷ []) ∷ (0 ∷ 2 ∷ []) ∷ (1 ∷ 0 ∷ 1 ∷ 0 ∷ 23 ∷ []) ∷ []) ≡ map refuses (1 ∷ 1 ∷ 1 ∷ [])
 unfolding need_bytes word_at at ends_before goes_on within in_range all_below
 allowed = refl
 
 -- Path's ends, and the second record made 1, 1 and 1, 3
 ends-judged :
-    map (λ b. sound_ends 3 2 (0 ∷ 0 ∷ 1 ∷ 0 ∷ 1 ∷ 0 ∷ b ∷ 0 ∷ [])) (2 ∷ 1 ∷ 3 ∷ []) ≡ true ∷ false ∷ false ∷ []
+    map (λ b. sound_ends 3 2 (ends_in (0 ∷ 0 ∷ 1 ∷ 0 ∷ 1 ∷ 0 ∷ b ∷ 0 ∷ []))) (2 ∷ 1 ∷ 3 ∷ []) ≡ true ∷ false ∷ false ∷ []
 unfolding sound_ends two_buses word_at at all_below
 ends-judged = refl

@@ -4,10 +4,10 @@ use Rattle.std.specs.Prelude.{Bool, cond, not, ◌&&◌, List, [], ◌∷◌, �
 use Rattle.lists.specs.Below.{all_below}
 use Rattle.refusals.specs.declared.Refusal.TheVariants.{FileTooShort, BusCount, Need, LineCount, FileTooLong, WeightCount, Weight}
 use Rattle.refusals.specs.Outcomes.{Outcome, Cause, ◌⇒◌, outcome}
-use Rattle.table_spec.specs.Limits.{max_buses, max_lines}
+use Rattle.table_spec.specs.Limits.{max_buses}
 use Rattle.table_spec.specs.Holds.{within, needs_in_range, weights_in_range}
 use Rattle.network.specs.declared.Counts.{Counts}
-use Rattle.file_spec.specs.FileBytes.{file_bus_count, needs_end, need_bytes, file_line_count, records_at, records_end, first_end, second_end, file_weight_count, weights_at, weights_end, file_weights}
+use Rattle.file_spec.specs.FileBytes.{file_bus_count, needs_end, need_bytes, file_line_count, records_at, records_end, Ends, file_weight_count, weights_at, weights_end, file_weights}
 
 -- the file ends before place i
 unfoldable pub ends_before : ℕ → List ℕ → Bool
@@ -26,9 +26,9 @@ bus_section_causes f =
     ∷ (not (needs_in_range (need_bytes f)) ⇒ Need)
     ∷ []
 
--- line count complete, its range
-abbrev pub line_count_causes : List ℕ → List Cause
-line_count_causes f = (ends_before (records_at f) f ⇒ FileTooShort) ∷ (not (within 0 max_lines (file_line_count f)) ⇒ LineCount) ∷ []
+-- line count complete, its range: there may be so many records, by the kind of the file
+abbrev pub line_count_causes : ℕ → List ℕ → List Cause
+line_count_causes most f = (ends_before (records_at f) f ⇒ FileTooShort) ∷ (not (within 0 most (file_line_count f)) ⇒ LineCount) ∷ []
 
 -- records complete
 abbrev pub missing_causes : List ℕ → List Cause
@@ -49,23 +49,23 @@ abbrev pub end_causes : List ℕ → List Cause
 end_causes f = cond (goes_on (records_end f) f) (weight_section_causes f) []
 
 -- behind the needs; and all, in file order
-abbrev pub line_section_causes : List ℕ → List Cause
-line_section_causes f = line_count_causes f ++ missing_causes f ++ end_causes f
+abbrev pub line_section_causes : ℕ → List ℕ → List Cause
+line_section_causes most f = line_count_causes most f ++ missing_causes f ++ end_causes f
 
-abbrev pub section_causes : List ℕ → List Cause
-section_causes f = bus_section_causes f ++ line_section_causes f
+abbrev pub section_causes : ℕ → List ℕ → List Cause
+section_causes most f = bus_section_causes f ++ line_section_causes most f
 
 -- n, and how many records there are
 abbrev pub counts : List ℕ → Counts
 counts f = record { buses = file_bus_count f; lines = file_line_count f }
 
-abbrev pub sections_outcome : List ℕ → Outcome Counts
-sections_outcome f = outcome (section_causes f) (counts f)
+abbrev pub sections_outcome : ℕ → List ℕ → Outcome Counts
+sections_outcome most f = outcome (section_causes most f) (counts f)
 
 -- a and b are two different buses below n
 unfoldable pub two_buses : ℕ → ℕ → ℕ → Bool
 two_buses n a b = ltb a n && ltb b n && not (eqb a b)
 
 -- so are the ends of each of the first m records
-unfoldable pub sound_ends : ℕ → ℕ → List ℕ → Bool
-sound_ends n m r = all_below m (λ k. two_buses n (first_end r k) (second_end r k))
+unfoldable pub sound_ends : ℕ → ℕ → Ends → Bool
+sound_ends n m r = all_below m (λ k. two_buses n (r.first k) (r.second k))

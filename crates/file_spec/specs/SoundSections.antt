@@ -2,9 +2,9 @@
 -- ---- the sections
 use Rattle.std.specs.Prelude.{true, List, ◌≡◌, ℕ, ◌*◌, ◌≤◌, ◌<◌}
 use Rattle.std.proofs.Math.ListN.{length}
-use Rattle.table_spec.specs.Limits.{max_buses, max_lines}
+use Rattle.table_spec.specs.Limits.{max_buses}
 use Rattle.table_spec.specs.Holds.{needs_in_range, weights_in_range}
-use Rattle.file_spec.specs.FileBytes.{file_bus_count, needs_end, need_bytes, file_line_count, records_end, first_end, second_end, file_weight_count, weights_end, file_weights}
+use Rattle.file_spec.specs.FileBytes.{file_bus_count, needs_end, need_bytes, records_end, Ends, file_weight_count, weights_end, file_weights}
 
 -- what a file has whose first section is sound
 pub record SoundBusSection (f : List ℕ) : Type 0 where
@@ -18,10 +18,9 @@ pub record SoundWeightSection (f : List ℕ) : Type 0 where
   pub counted : file_weight_count f ≡ file_bus_count f
   pub size : length f ≡ weights_end f
 
--- and whose sections all are; the weight section may be missing, and all weights are 1 then
+-- and whose sections all are, however many records there may be; the weight section may be missing, and all weights are 1 then
 pub record SoundSections (f : List ℕ) : Type 0 where
   pub first : SoundBusSection f
-  pub lines : file_line_count f ≤ max_lines
   pub complete : records_end f ≤ length f
   pub third : records_end f < length f → SoundWeightSection f
   pub weights : weights_in_range (file_weights f) ≡ true
@@ -35,5 +34,5 @@ CompleteWeights n b = 0 < length b → 2 * n ≤ length b
 abbrev pub TwoBuses : ℕ → ℕ → ℕ → Type 0
 TwoBuses n a b = (a < n) × (b < n) × (a ≡ b → ⊥)
 
-abbrev pub SoundEnds : ℕ → ℕ → List ℕ → Type 0
-SoundEnds n m r = (k : ℕ) → k < m → TwoBuses n (first_end r k) (second_end r k)
+abbrev pub SoundEnds : ℕ → ℕ → Ends → Type 0
+SoundEnds n m r = (k : ℕ) → k < m → TwoBuses n (r.first k) (r.second k)

@@ -1,6 +1,6 @@
 // Networks: their limits, and what a line table has where. A network is a line table in a lent slice.
 ghost use Rattle.std.specs.Prelude.{◌≡◌};
-ghost use Rattle.table_spec.specs.Limits.{max_buses, max_degree, max_need, max_weight, max_lines, max_entries, max_bytes};
+ghost use Rattle.table_spec.specs.Limits.{max_buses, max_degree, max_need, max_weight, max_lines, max_entries, max_bytes, max_one_way_lines, max_one_way_entries, max_one_way_bytes};
 ghost use Rattle.table_spec.specs.Holds.{within, can_be_met};
 
 pub mod rows;
@@ -47,6 +47,14 @@ pub struct Limits {
     pub bytes: usize,
 }
 
+// And those that are others for one-way lines.
+#[derive(Drop)]
+pub struct OneWayLimits {
+    pub lines: usize,
+    pub entries: usize,
+    pub bytes: usize,
+}
+
 #[derive(Drop)]
 pub struct Network;
 
@@ -72,6 +80,23 @@ impl Network {
     // Bytes of a network file.
     pub const BYTES: usize = 2 + Network::BUSES + 2 + 4 * Network::LINES + 2 + 2 * Network::BUSES;
 
+    // One-way lines of a network: each leads into one bus.
+    pub const ONE_WAY_LINES: usize = Network::BUSES * Network::LINES_AT_BUS;
+
+    // Entries of a table of one-way lines.
+    pub const ONE_WAY_ENTRIES: usize = 1
+        + 2 * Network::BUSES
+        + (Network::BUSES + 1)
+        + Network::ONE_WAY_LINES;
+
+    // Bytes of a file of one-way lines.
+    pub const ONE_WAY_BYTES: usize = 2
+        + Network::BUSES
+        + 2
+        + 4 * Network::ONE_WAY_LINES
+        + 2
+        + 2 * Network::BUSES;
+
     pub fn limits() -> Limits
         ensures buses_value { (result.buses ≡ max_buses) × (result.degree ≡ max_degree) × (result.need ≡ max_need) × (result.weight ≡ max_weight) }
         ensures lines_value { (result.lines ≡ max_lines) × (result.entries ≡ max_entries) × (result.bytes ≡ max_bytes) }
@@ -84,6 +109,16 @@ impl Network {
             lines: Network::LINES,
             entries: Network::ENTRIES,
             bytes: Network::BYTES,
+        }
+    }
+
+    pub fn one_way_limits() -> OneWayLimits
+        ensures { (result.lines ≡ max_one_way_lines) × (result.entries ≡ max_one_way_entries) × (result.bytes ≡ max_one_way_bytes) }
+    {
+        OneWayLimits {
+            lines: Network::ONE_WAY_LINES,
+            entries: Network::ONE_WAY_ENTRIES,
+            bytes: Network::ONE_WAY_BYTES,
         }
     }
 }

@@ -1,7 +1,7 @@
 // Line tables in lent slices: where a table has what. Row starts begin at `from`.
 ghost use Rattle.std.specs.Prelude.{◌≡◌, ◌+◌, ◌≤◌, ◌<◌, length};
-ghost use Rattle.table_spec.specs.Limits.{max_buses, max_weight, max_lines};
-ghost use Rattle.table_spec.specs.Layout.{bus_count, needs, weights_from, starts_from, weights, need, weight, starts, neighbour_numbers, starts_at, row, row_start, lines, table_entries};
+ghost use Rattle.table_spec.specs.Limits.{max_buses, max_weight, max_lines, max_one_way_lines};
+ghost use Rattle.table_spec.specs.Layout.{bus_count, needs, weights_from, starts_from, weights, need, weight, starts, neighbour_numbers, starts_at, row, row_start, last, lines, table_entries, one_way_entries};
 ghost use Rattle.table_spec.specs.Holds.{Complete, Scorable, Holds};
 
 use super::rows::{entry, row_at};
@@ -126,4 +126,20 @@ pub fn lines(table: &[u16]) -> usize
     ensures { result ≡ lines table.now }
 {
     neighbour_numbers(table, starts_at(table)).len() / 2
+}
+
+// How many entries the table of n buses and m one-way lines has.
+pub fn one_way_entries(n: usize, m: usize) -> usize
+    requires { (n ≤ max_buses) × (m ≤ max_one_way_lines) }
+    ensures { result ≡ one_way_entries n m }
+{
+    3 * n + 2 + m
+}
+
+// How many one-way lines: as many as neighbour numbers.
+pub fn one_way_lines(table: &[u16]) -> usize
+    requires { Scorable table.now }
+    ensures { result ≡ last (starts_at table.now) table.now }
+{
+    neighbour_numbers(table, starts_at(table)).len()
 }

@@ -1,1 +1,3 @@
+pub mod OneWayShares
 pub mod OneWaySound
+pub mod SameOneWay

@@ -8,11 +8,11 @@ use Rattle.fraction.specs.Divisors.{gcd_of, lcm_of, lcm_all}
 use Rattle.game.specs.Orders.{orders}
 use Rattle.game.specs.Game.{seen, value, gain, own_term, neighbour_term}
 use Rattle.table_spec.specs.Layout.{row_at, needs, weights, starts, neighbour_numbers, row}
-use Rattle.table_spec.specs.Holds.{within, complete, in_range, never_fall, short_rows, valid_entry, valid_row, valid_rows, sound_rows}
+use Rattle.table_spec.specs.Holds.{within, complete, in_range, never_fall, short_rows, valid_entry, valid_row, valid_rows, sound_rows, holds_one_way}
 use Rattle.share_spec.specs.Formula.{numerator_over}
 use Rattle.share_spec.specs.TableNetwork.{largest_degree, divisors_of, game_of}
 use Rattle.share_spec.specs.ShareOutcomes.{shares_outcome, stored_numerators, numerators_after, share_outcome}
-use Rattle.one_way.specs.OneWay.{holds_one_way, one_way}
+use Rattle.one_way.specs.OneWay.{one_way}
 
 -- records 0 1, 0 2 and 1 2, need k at bus 2, weights 1: none leads into bus 0, one into bus 1, two into bus 2
 feeder : ℕ → List ℕ

@@ -3,7 +3,7 @@ use Rattle.std.specs.Prelude.{ℕ}
 
 -- things that are counted
 abbrev pub counted : ℕ
-counted = 14
+counted = 17
 
 -- more than any L or numerator
 abbrev pub large : ℕ

@@ -7,14 +7,15 @@ use Rattle.refused_line.specs.RefusedLine.{text_or}
 use Rattle.table_spec.specs.Limits.{max_bytes, max_entries}
 use Rattle.file_spec.specs.FileBytes.{word_at}
 use Rattle.read_spec.specs.ReadOutcome.{file_table}
+use Rattle.file_spec.specs.Kinds.{two_way_file}
 use Rattle.read_spec.proofs.ReadFront.{long_refused, front_refused, by_front}
 use Rattle.outage_report.specs.OutageReport.{studied, file_studied, printed}
 
 file-front : (k : ℕ) (f : List ℕ) → file_studied (take (max_bytes + 1) f) k ≡ file_studied f k
 file-front k =
-    by_front (λ f. file_studied f k) λ f l.
-    ap (λ o. text_or o (studied (file_table (take (max_bytes + 1) f)) k)) (front_refused f l max_entries)
-    ∙ sym (ap (λ o. text_or o (studied (file_table f) k)) (long_refused f max_entries l))
+    by_front max_bytes (λ f. file_studied f k) λ f l.
+    ap (λ o. text_or o (studied (file_table (take (max_bytes + 1) f)) k)) (front_refused two_way_file f l max_entries)
+    ∙ sym (ap (λ o. text_or o (studied (file_table f) k)) (long_refused two_way_file f max_entries l))
 
 -- behind its first two entries, the front of a list has two fewer
 drop-front : (n : ℕ) (l : List ℕ) {m : ℕ} → m ≡ suc (suc n) → drop 2 (take m l) ≡ take n (drop 2 l)

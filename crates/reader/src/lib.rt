@@ -1,52 +1,26 @@
 // Read: a network file into a lent line table.
-ghost use Rattle.std.specs.Prelude.{◌∷◌, ◌≡◌, ◌+◌, ◌*◌, ◌≤◌, ◌<◌, length};
+ghost use Rattle.std.specs.Prelude.{◌≡◌, ◌*◌, ◌≤◌, length};
 ghost use Rattle.lists.specs.Lists.{put};
-ghost use Rattle.lists.specs.Below.{map_below};
 ghost use Rattle.table_spec.specs.Limits.{max_buses, max_lines};
 ghost use Rattle.table_spec.specs.Layout.{table_entries};
-ghost use Rattle.file_spec.specs.FileBytes.{weight_in};
+ghost use Rattle.file_spec.specs.FileBytes.{ends_in};
 ghost use Rattle.file_spec.specs.SoundSections.{CompleteWeights};
 ghost use Rattle.file_spec.specs.Records.{pair_count};
+ghost use Rattle.file_spec.specs.Kinds.{two_way_file};
 ghost use Rattle.file_spec.specs.OrderedRecords.{OrderedRecords};
 ghost use Rattle.file_sections.specs.FileAnswers.{outcome_of_reading};
 ghost use Rattle.file_records.specs.RecordSteps.{NeighbourCounts};
 ghost use Rattle.read_spec.specs.ReadOutcome.{read_outcome, table_after, Recorded};
 ghost use Rattle.read_spec.specs.ReadStages.{records_table, LinesDue, RecordsDue};
 
+use bus_builder::{store_needs, store_weights};
 use file_records::{count_neighbours, store_rows};
 pub use file_sections::{Counts, Reading};
-use file_sections::{
-    judge, need_bytes, out_of_order, records, sound_ends, weight_bytes, weight_in,
-};
+use file_sections::{judge, need_bytes, out_of_order, records, sound_ends, weight_bytes};
 use network::Network;
 pub use network::Refusal;
 use network::table::{entries, starts_from, weights_from};
 use row_builder::{degree_too_high, needs_can_be_met, zero_counts};
-
-// Writes the bus count and the needs.
-fn store_needs(needs: &[u8], table: &mut [u16])
-    requires { (length needs.now ≤ max_buses) × (1 + length needs.now ≤ length table.old) }
-    ensures { table.new ≡ put table.old 0 (length needs.now ∷ needs.now) }
-{
-    table[0] = needs.len() as u16;
-    let mut bus = 0;
-    while bus < needs.len() {
-        table[1 + bus] = needs[bus] as u16;
-        bus += 1;
-    }
-}
-
-// Writes the weights that the bytes of a section give n buses into the table from place `from` on.
-fn store_weights(section: &[u8], n: usize, table: &mut [u16], from: usize)
-    requires { CompleteWeights n section.now × (from + n ≤ length table.old) }
-    ensures { table.new ≡ put table.old from (map_below n (weight_in section.now)) }
-{
-    let mut bus = 0;
-    while bus < n {
-        table[from + bus] = weight_in(section, bus) as u16;
-        bus += 1;
-    }
-}
 
 // Writes the table of buses with these needs and weights, and of m records, by which neighbours were counted.
 fn store_table(
@@ -57,9 +31,9 @@ fn store_table(
     counts: &mut [u16; Network::BUSES],
     table: &mut [u16],
 )
-    requires m_in_bounds { (4 * m ≤ length section.now) × OrderedRecords (length needs.now) m section.now × NeighbourCounts (length needs.now) m section.now counts.old }
-    requires complete_weights { CompleteWeights (length needs.now) weights.now × (table_entries (length needs.now) (pair_count m section.now) ≤ length table.old) }
-    ensures { table.new ≡ put table.old 0 (records_table needs.now weights.now m section.now) }
+    requires m_in_bounds { (4 * m ≤ length section.now) × OrderedRecords (length needs.now) m (ends_in section.now) × NeighbourCounts (length needs.now) m (ends_in section.now) counts.old }
+    requires complete_weights { CompleteWeights (length needs.now) weights.now × (table_entries (length needs.now) (pair_count m (ends_in section.now)) ≤ length table.old) }
+    ensures { table.new ≡ put table.old 0 (records_table two_way_file needs.now weights.now m (ends_in section.now)) }
 {
     let n = needs.len();
     store_needs(needs, table);
@@ -69,8 +43,8 @@ fn store_table(
 
 // Reads m records that are sound and in order, of buses with these needs and weights.
 fn read_lines(needs: &[u8], weights: &[u8], section: &[u8], m: usize, table: &mut [u16]) -> Reading
-    requires { CompleteWeights (length needs.now) weights.now × (4 * m ≤ length section.now) × OrderedRecords (length needs.now) m section.now }
-    ensures { LinesDue needs.now weights.now m section.now table.old (outcome_of_reading result) table.new }
+    requires { CompleteWeights (length needs.now) weights.now × (4 * m ≤ length section.now) × OrderedRecords (length needs.now) m (ends_in section.now) }
+    ensures { LinesDue two_way_file needs.now weights.now m (ends_in section.now) table.old (outcome_of_reading result) table.new }
 {
     let n = needs.len();
     let mut counts = zero_counts();
@@ -97,7 +71,7 @@ fn read_records(
     table: &mut [u16],
 ) -> Reading
     requires { (length needs.now ≤ max_buses) × CompleteWeights (length needs.now) weights.now × (m ≤ max_lines) × (4 * m ≤ length section.now) }
-    ensures { RecordsDue needs.now weights.now m section.now table.old (outcome_of_reading result) table.new }
+    ensures { RecordsDue two_way_file needs.now weights.now m (ends_in section.now) table.old (outcome_of_reading result) table.new }
 {
     if !sound_ends(section, needs.len(), m) {
         return Reading::Refused(Refusal::LineEnds);
@@ -114,7 +88,7 @@ pub fn read(file: &[u8], table: &mut [u16]) -> Reading
     ensures stored { table.new ≡ table_after file.now table.old }
     ensures recorded { Recorded file.now table.old (outcome_of_reading result) table.new }
 {
-    match judge(file) {
+    match judge(file, Network::LINES) {
         Reading::Refused(cause) => Reading::Refused(cause),
         Reading::Accepted(counts) => {
             let n = counts.buses;

@@ -1,1 +1,2 @@
 pub mod GrowingLaws
+pub mod StoredRows

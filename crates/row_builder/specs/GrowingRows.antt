@@ -10,6 +10,11 @@ pub record AllZero (counts : List ℕ) : Type 0 where
   pub size : length counts ≡ max_buses
   pub zero : (i : ℕ) → at counts i ≡ 0
 
+-- each of n buses has so many numbers in its row
+pub record RowCounts (n : ℕ) (rows : ℕ → List ℕ) (counts : List ℕ) : Type 0 where
+  pub size : length counts ≡ max_buses
+  pub each : Tabled n (λ i. length (rows i)) counts
+
 -- each count of n buses became the start of its row: the counts before it, added up
 pub record RowStarts (n : ℕ) (counts starts : List ℕ) : Type 0 where
   pub size : length starts ≡ max_buses

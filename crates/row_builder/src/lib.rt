@@ -54,6 +54,20 @@ pub fn needs_can_be_met(needs: &[u8], counts: &[u16]) -> bool
     true
 }
 
+// How many numbers the rows of n buses have, which have so many neighbours.
+pub fn total(counts: &[u16; Network::BUSES], n: usize) -> usize
+    requires { n ≤ max_buses }
+    ensures { result ≡ sum_below n (at counts.now) }
+{
+    let mut numbers = 0;
+    let mut bus = 0;
+    while bus < n {
+        numbers += entry(counts, bus);
+        bus += 1;
+    }
+    numbers
+}
+
 // Writes the row starts of n buses, which have so many neighbours, into the table from place `from` on. Each count becomes the start of its row.
 // Gives how many numbers all rows have.
 pub fn store_starts(

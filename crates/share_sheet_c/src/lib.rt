@@ -15,6 +15,8 @@ ghost use Rattle.whole_sheet.specs.WholeSheet.{sheet_outcome, sheet_after};
 ghost use Rattle.whole_sheet.specs.SheetRoom.{longest_sheet};
 ghost use Rattle.share_sheet_c.specs.Status.{ByStatus, outcome_of_status, counted};
 
+pub mod one_way_calls;
+
 use fraction::Cancelled;
 use network::Network;
 use outage::AllChanges;
@@ -25,7 +27,7 @@ use table_lookup::{BusDegree, RowPlace};
 use whole_sheet::LONGEST_SHEET;
 
 // The status of a refused call.
-fn status(cause: Refusal) -> u32
+pub fn status(cause: Refusal) -> u32
     ensures { result ≡ number_of cause }
 {
     cause.number() as u32

@@ -1,14 +1,15 @@
 -- All that Shares and Share promise, from what is due.
-use Rattle.std.specs.Prelude.{true, List, ◌++◌, ◌≡◌, ℕ, length, drop}
-use Rattle.std.proofs.Common.{ap, ◌∙◌}
-use Rattle.lists.specs.Lists.{put}
+use Rattle.std.specs.Prelude.{true, List, ◌++◌, ◌≡◌, ℕ, ◌≤◌, length, drop}
+use Rattle.std.proofs.Common.{ap, ◌∙◌, arith}
+use Rattle.lists.specs.Lists.{at, put}
 use Rattle.lists.specs.Below.{map_below}
-use Rattle.lists.proofs.Writes.{put_front}
-use Rattle.lists.proofs.JoinBelow.{length-map_below}
+use Rattle.lists.proofs.Places.{at-append}
+use Rattle.lists.proofs.Writes.{put_front, length-put}
+use Rattle.lists.proofs.JoinBelow.{length-map_below, map_below-at}
 use Rattle.refusals.specs.Outcomes.{Outcome}
 use Rattle.share_spec.specs.Network.{Network, denominator, Sound}
 use Rattle.share_spec.specs.Formula.{numerator_over, numerator}
-use Rattle.share_spec.specs.ShareOutcomes.{shares_outcome, stored_numerators, numerators_after, AllFair, share_outcome, OneFair}
+use Rattle.share_spec.specs.ShareOutcomes.{shares_outcome, stored_numerators, numerators_after, AllFair, share_outcome, OneFair, Scored}
 use Rattle.share_spec.specs.ShareClaims.{SharesDue, ShareDue}
 use Rattle.share_spec.proofs.ShareClaims.{shares_due, all_fair, one_fair}
 
@@ -24,6 +25,20 @@ unfolding stored_numerators
 put-stored N x =
     let vs = map_below N.buses (numerator N) in
     put_front x vs ∙ ap (λ k. vs ++ drop k x) (length-map_below N.buses (numerator N))
+
+-- the numerators of a network were stored at the front of x
+pub scored : (N : Network) (x : List ℕ) {L : ℕ} {numerators : List ℕ} → N.buses ≤ length x → L ≡ denominator N → numerators ≡ put x 0 (map_below N.buses (numerator N))
+    → Scored N L numerators
+scored N x {numerators = numerators} l e p =
+    let first = length-map_below N.buses (numerator N) in
+    record {
+      over = e;
+      long = omega (arith, ap length p, length-put x 0 (map_below N.buses (numerator N)) (omega (arith, first)));
+      each = λ i b.
+          ap (λ l. at l i) (p ∙ put_front x (map_below N.buses (numerator N)))
+          ∙ at-append (map_below N.buses (numerator N)) _ i (omega (arith, first))
+          ∙ map_below-at (numerator N) N.buses b;
+    }
 
 -- ---- what is due is all that is promised
 

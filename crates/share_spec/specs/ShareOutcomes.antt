@@ -1,7 +1,7 @@
 -- What Shares and Share answer and store, for every slice and whatever kind of network it holds, and that it is fair.
 -- Definitions only.
 use Rattle.std.specs.Prelude.{true, List, [], ◌∷◌, ◌++◌, ◌≡◌, ℕ, ◌*◌, ◌≤◌, ◌<◌, ltb, length, drop}
-use Rattle.lists.specs.Lists.{at}
+use Rattle.lists.specs.Lists.{at, Tabled}
 use Rattle.lists.specs.Below.{sum_below, map_below}
 use Rattle.refusals.specs.declared.Refusal.TheVariants.{NumeratorsTooShort}
 use Rattle.refusals.specs.Outcomes.{Outcome, gives, Cause, ◌⇒◌, outcome, values_or}
@@ -53,3 +53,10 @@ pub record FairToOne (N : Network) (bus : ℕ) (answer : Outcome (ℕ × ℕ)) :
 -- so it is for every bus of every network
 abbrev pub OneFair : Network → ℕ → Outcome (ℕ × ℕ) → Type 0
 OneFair N bus answer = N.held ≡ true → bus < N.buses → FairToOne N bus answer
+
+-- ---- what work functions promise: a network that is scored has its L, and the numerators of its buses in a list
+
+pub record Scored (N : Network) (L : ℕ) (numerators : List ℕ) : Type 0 where
+  pub over : L ≡ denominator N
+  pub long : N.buses ≤ length numerators
+  pub each : Tabled N.buses (numerator N) numerators

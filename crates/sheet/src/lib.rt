@@ -1,13 +1,11 @@
 // Share sheets: the text of one line, from a line table.
-ghost use Rattle.std.specs.Prelude.{◌≡◌, suc, ◌+◌, ◌≤◌, ◌<◌, length};
+ghost use Rattle.std.specs.Prelude.{◌≡◌, ◌+◌, ◌≤◌, ◌<◌, length};
 ghost use Rattle.lists.specs.Lists.{WrittenAt};
 ghost use Rattle.refusals.specs.WrittenAnswer.{outcome_of_written};
-ghost use Rattle.table_spec.specs.Layout.{bus_count};
-ghost use Rattle.table_spec.specs.Holds.{Holds};
-ghost use Rattle.share_spec.specs.Network.{denominator};
-ghost use Rattle.share_spec.specs.Formula.{numerator as numeratorOf};
+ghost use Rattle.table_spec.specs.Layout.{bus_count, need, degree};
+ghost use Rattle.table_spec.specs.Holds.{Scorable, Holds};
 ghost use Rattle.two_way.specs.TwoWay.{network_of};
-ghost use Rattle.sheet.specs.Sheet.{sheet_line};
+ghost use Rattle.sheet.specs.Sheet.{sheet_line, heading_text, bus_text};
 ghost use Rattle.sheet.specs.LineOutcomes.{text_outcome, text_after, line_outcome, line_after};
 ghost use Rattle.sheet.specs.LineRoom.{longest_line};
 
@@ -24,18 +22,18 @@ use text::fill_template;
 pub const LONGEST_LINE: usize = 55;
 
 // Writes the heading, and gives the place behind it.
-pub fn write_heading(table: &[u16], over: u64, out: &mut [u8], at: usize) -> usize
-    requires { Holds table.now × (over ≡ denominator (network_of table.now)) × (at + longest_line ≤ length out.old) }
-    ensures written_at { WrittenAt (sheet_line (network_of table.now) 0) at out.old result out.new }
+pub fn write_heading(buses: usize, lines: usize, over: u64, out: &mut [u8], at: usize) -> usize
+    requires { (at + longest_line ≤ length out.old) × (length (heading_text buses lines over) ≤ longest_line) }
+    ensures written_at { WrittenAt (heading_text buses lines over) at out.old result out.new }
     ensures upper_bound { result ≤ at + longest_line }
 {
-    let buses = bus_count(table) as u64;
-    let lines = lines(table) as u64;
+    let buses = buses as u64;
+    let lines = lines as u64;
     let numbers = [buses, lines, over];
     fill_template(b"buses # lines # over #\n", &numbers, out, at)
 }
 
-// Writes the line of a bus whose numerator is known, and gives the place behind it.
+// Writes the line of a bus whose numerator is known, whichever way the table's lines run, and gives the place behind it.
 pub fn write_bus(
     table: &[u16],
     over: u64,
@@ -44,9 +42,9 @@ pub fn write_bus(
     out: &mut [u8],
     at: usize,
 ) -> usize
-    requires holds { Holds table.now × (bus < bus_count table.now) × (at + longest_line ≤ length out.old) }
-    requires over_value { (over ≡ denominator (network_of table.now)) × (numerator ≡ numeratorOf (network_of table.now) bus) }
-    ensures written_at { WrittenAt (sheet_line (network_of table.now) (suc bus)) at out.old result out.new }
+    requires scorable { Scorable table.now × (bus < bus_count table.now) × (0 < over) × (at + longest_line ≤ length out.old) }
+    requires over_len_bound { length (bus_text bus (need table.now bus) (degree table.now bus) numerator over) ≤ longest_line }
+    ensures written_at { WrittenAt (bus_text bus (need table.now bus) (degree table.now bus) numerator over) at out.old result out.new }
     ensures upper_bound { result ≤ at + longest_line }
 {
     let need = need(table, bus) as u64;
@@ -63,7 +61,7 @@ fn write_line(table: &[u16], i: usize, out: &mut [u8]) -> usize
     ensures upper_bound { result ≤ longest_line }
 {
     if i == 0 {
-        return write_heading(table, denominator(table), out, 0);
+        return write_heading(bus_count(table), lines(table), denominator(table), out, 0);
     }
     let bus = i - 1;
     let share = share_of(table, bus);

@@ -1,5 +1,5 @@
 // Which networks are compared: all small ones with need 1 and weight 1, and some with needs, lines and weights drawn by chance
-// from a fixed seed.
+// from a fixed seed. Their lines run both ways or one way.
 ghost use Rattle.std.specs.Prelude.{◌≡◌, ◌<◌, ◌≤◌};
 ghost use Rattle.small_networks.specs.SizeBounds.{most};
 
@@ -8,34 +8,54 @@ use crate::{MOST, Small, neighbours, size};
 // Sets of buses.
 const SETS: u64 = 1 << MOST;
 
-// How many sets of lines there are between the buses, for up to five.
-pub fn line_sets(buses: usize) -> u64 {
+// Pairs of buses, for up to five.
+fn pairs(buses: usize) -> u64
+    ensures { result ≤ 10 }
+{
     match buses {
-        0 | 1 => 1,
-        2 => 2,
-        3 => 8,
-        4 => 64,
-        _ => 1024,
+        0 | 1 => 0,
+        2 => 1,
+        3 => 3,
+        4 => 6,
+        _ => 10,
     }
 }
 
-// The network of a number below that, with need 1 and weight 1 everywhere. Its binary digits say which lines there are: one
-// digit for bus 1, two for bus 2, and so on, each for a bus of a lower number.
-pub fn numbered(buses: usize, number: u64) -> Small
-    requires { buses ≤ most }
-    ensures { result.buses ≡ buses }
-{
+// How many sets of lines there are: each pair may have a line, or one each way.
+pub fn line_sets(buses: usize, one_way: bool) -> u64 {
+    let pairs = pairs(buses);
+    if one_way { 1 << 2 * pairs } else { 1 << pairs }
+}
+
+// Sets of buses of lower numbers by the binary digits of a number: one digit for bus 1, two for bus 2, and so on, a digit for
+// each pair.
+fn numbered_lower(number: u64) -> [u32; MOST] {
     let mut lower = [0u32; MOST];
     let mut rest = number;
     for bus in 1..MOST {
         lower[bus] = (rest % SETS) as u32;
         rest >>= bus;
     }
+    lower
+}
+
+// The network of a number below that of the sets of lines, with need 1 and weight 1 everywhere.
+pub fn numbered(buses: usize, one_way: bool, number: u64) -> Small
+    requires { buses ≤ most }
+    ensures { result.buses ≡ buses }
+{
+    let up = numbered_lower(number);
+    let down = if one_way {
+        numbered_lower(number >> pairs(buses))
+    } else {
+        up
+    };
     Small {
         buses,
+        one_way,
         needs: [1u8; MOST],
         weights: [1u16; MOST],
-        neighbours: neighbours(&lower, buses),
+        neighbours: neighbours(up, down, buses),
     }
 }
 
@@ -73,11 +93,14 @@ fn digits(kind: u64, drawn: u64) -> u64 {
     }
 }
 
-// Lines to buses of lower numbers: few, so that many buses have none, about half of all, or most.
-fn lower(draws: &[u64; DRAWS]) -> [u32; MOST] {
+// Sets of buses of lower numbers, by the digits that are drawn from a place on: few buses, so that many have no line, about
+// half of all, or most.
+fn drawn_lower(draws: &[u64; DRAWS], place: usize) -> [u32; MOST]
+    requires { place < 64 }
+{
     let mut lower = [0u32; MOST];
     for bus in 1..MOST {
-        lower[bus] = (digits(draws[MOST], draws[MOST + bus]) % SETS) as u32;
+        lower[bus] = (digits(draws[MOST], draws[MOST + bus] >> place) % SETS) as u32;
     }
     lower
 }
@@ -114,16 +137,25 @@ fn weights(draws: &[u64; DRAWS]) -> [u16; MOST] {
     weights
 }
 
-pub fn chosen(buses: usize, draws: &[u64; DRAWS]) -> Small
+// Where the digits start that the first sets do not use.
+const SECOND: usize = 2 * MOST;
+
+pub fn chosen(buses: usize, one_way: bool, draws: &[u64; DRAWS]) -> Small
     requires { buses ≤ most }
     ensures { result.buses ≡ buses }
 {
-    let lower = lower(draws);
-    let neighbours = neighbours(&lower, buses);
+    let up = drawn_lower(draws, 0);
+    let down = if one_way {
+        drawn_lower(draws, SECOND)
+    } else {
+        up
+    };
+    let neighbours = neighbours(up, down, buses);
     let needs = needs(draws, &neighbours);
     let weights = weights(draws);
     Small {
         buses,
+        one_way,
         needs,
         weights,
         neighbours,
@@ -131,49 +163,43 @@ pub fn chosen(buses: usize, draws: &[u64; DRAWS]) -> Small
 }
 
 // The same network with a need that cannot be met: at one bus, one above the highest that can.
-pub fn raised(small: Small, bus: usize) -> Small
+pub fn raised(mut small: Small, bus: usize) -> Small
     requires { bus < most }
     ensures { result.buses ≡ small.buses }
 {
-    let neighbours = small.neighbours;
-    let weights = small.weights;
-    let mut needs = small.needs;
-    needs[bus] = (highest(neighbours[bus]) + 1) as u8;
-    Small {
-        buses: small.buses,
-        needs,
-        weights,
-        neighbours,
-    }
+    small.needs[bus] = (highest(small.neighbours[bus]) + 1) as u8;
+    small
 }
 
-// The same network with other weights.
-fn weighted(small: Small, weights: [u16; MOST]) -> Small
+// The same network with need 1 everywhere.
+pub fn undemanding(mut small: Small) -> Small
     ensures { result.buses ≡ small.buses }
 {
-    let needs = small.needs;
-    let neighbours = small.neighbours;
-    Small {
-        buses: small.buses,
-        needs,
-        weights,
-        neighbours,
-    }
+    small.needs = [1u8; MOST];
+    small
 }
 
 // The same network with weight 1 everywhere.
-pub fn unweighted(small: Small) -> Small
+pub fn unweighted(mut small: Small) -> Small
     ensures { result.buses ≡ small.buses }
 {
-    weighted(small, [1u16; MOST])
+    small.weights = [1u16; MOST];
+    small
 }
 
 // The same network with another weight at one bus.
-pub fn reweighted(small: Small, bus: usize, weight: u16) -> Small
+pub fn reweighted(mut small: Small, bus: usize, weight: u16) -> Small
     requires { bus < most }
     ensures { result.buses ≡ small.buses }
 {
-    let mut weights = small.weights;
-    weights[bus] = weight;
-    weighted(small, weights)
+    small.weights[bus] = weight;
+    small
+}
+
+// The same sets of neighbours, taken for those of the other kind of lines.
+pub fn other_kind(mut small: Small) -> Small
+    ensures { result.buses ≡ small.buses }
+{
+    small.one_way = !small.one_way;
+    small
 }

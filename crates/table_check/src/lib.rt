@@ -1,7 +1,7 @@
 // The test of a line table: whether a slice holds a network. Row starts begin at `from`.
 ghost use Rattle.std.specs.Prelude.{◌&&◌, ◌≡◌, ◌^◌, ◌≤◌, ◌<◌, length};
 ghost use Rattle.table_spec.specs.Layout.{row_size};
-ghost use Rattle.table_spec.specs.Holds.{complete, needs_in_range, weights_in_range, two_way, needs_can_be_met, holds, Complete, Steps};
+ghost use Rattle.table_spec.specs.Holds.{complete, needs_in_range, weights_in_range, sound_in, needs_can_be_met, holds, holds_one_way, Complete, Steps};
 
 pub mod mirrors;
 pub mod rows;
@@ -27,18 +27,13 @@ fn complete(table: &[u16], from: usize) -> bool
     from + n + 1 + entry(table, from + n) <= table.len()
 }
 
-// Whether the rows are sound, and every neighbour is mirrored.
-fn two_way(table: &[u16], from: usize) -> bool
+// Whether the rows are sound.
+fn sound(table: &[u16], from: usize) -> bool
     requires { Complete from table.now }
-    ensures { result ≡ two_way from table.now }
+    ensures { result ≡ sound_in from table.now }
 {
     let n = bus_count(table);
-    let starts = starts(table, from);
-    let numbers = neighbour_numbers(table, from);
-    if !sound_rows(starts, numbers, n) {
-        return false;
-    }
-    mirrored(starts, numbers, n)
+    sound_rows(starts(table, from), neighbour_numbers(table, from), n)
 }
 
 // Whether every need and every weight is one that a bus may have, and each need can be met: the degree of a bus is how far its row start is from the next.
@@ -65,9 +60,9 @@ fn valid_buses(needs: &[u16], weights: &[u16], starts: &[u16]) -> bool
     true
 }
 
-// Whether the slice holds a network.
-pub fn holds(table: &[u16]) -> bool
-    ensures { result ≡ holds table.now }
+// Whether the slice holds a network of one-way lines: all that a network must have but that every neighbour is mirrored.
+pub fn holds_one_way(table: &[u16]) -> bool
+    ensures { result ≡ holds_one_way table.now }
 {
     if table.len() < 1 {
         return false;
@@ -76,8 +71,20 @@ pub fn holds(table: &[u16]) -> bool
     if !complete(table, from) {
         return false;
     }
-    if !two_way(table, from) {
+    if !sound(table, from) {
         return false;
     }
     valid_buses(needs(table), weights(table), starts(table, from))
+}
+
+// Whether the slice holds a network, whose lines run both ways.
+pub fn holds(table: &[u16]) -> bool
+    ensures { result ≡ holds table.now }
+{
+    if !holds_one_way(table) {
+        return false;
+    }
+    let n = bus_count(table);
+    let from = starts_at(table);
+    mirrored(starts(table, from), neighbour_numbers(table, from), n)
 }

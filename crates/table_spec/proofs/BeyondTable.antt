@@ -5,9 +5,9 @@ use borrow.Author.Tests.{le-leb}
 use Rattle.std.proofs.Math.ListN.{length-append}
 use Rattle.lists.specs.Lists.{at}
 use Rattle.lists.proofs.Places.{at-append, part-append}
-use Rattle.table_spec.specs.Layout.{bus_count, needs, weights, starts, last, entries, neighbour_numbers, weights_from, starts_at, row}
+use Rattle.table_spec.specs.Layout.{bus_count, needs, weights, starts, last, entries, neighbour_numbers, weights_from, starts_from, starts_at, row}
 use Rattle.table_spec.proofs.Rows.{needs-read, weights-read, starts-read}
-use Rattle.table_spec.specs.Holds.{complete, two_way, holds}
+use Rattle.table_spec.specs.Holds.{complete, two_way, holds, holds_one_way}
 use Rattle.table_spec.specs.TableOutcomes.{SameNetwork}
 
 -- the sections of a table whose row starts begin at `from`, in a slice that goes on with x
@@ -47,6 +47,10 @@ module _ (t x : List ℕ) (w : entries (starts_at t) t ≤ length t) where
   unfolding holds row
   holds_on = rw (bus_count_on (starts_at t) t x w, complete_on (starts_at t) t x w, needs_on, weights_on, two_way_on (starts_at t) t x w, starts_on (starts_at t) t x w, numbers_on (starts_at t) t x w)
 
+  one_way_on : holds_one_way (t ++ x) ≡ holds_one_way t
+  unfolding holds_one_way row
+  one_way_on = rw (bus_count_on (starts_at t) t x w, complete_on (starts_at t) t x w, needs_on, weights_on, starts_on (starts_at t) t x w, numbers_on (starts_at t) t x w)
+
   row_on : (i : ℕ) → row (t ++ x) i ≡ row t i
   unfolding row
   row_on i = rw (bus_count_on (starts_at t) t x w, starts_on (starts_at t) t x w, numbers_on (starts_at t) t x w)
@@ -54,14 +58,16 @@ module _ (t x : List ℕ) (w : entries (starts_at t) t ≤ length t) where
   on : SameNetwork (t ++ x) t
   on = record {
     judged = holds_on;
+    judged_one_way = one_way_on;
     sizes = bus_count_on (starts_at t) t x w;
     needed = needs_on;
     weighed = weights_on;
+    numbered = ap (λ n. last (starts_from n) (t ++ x)) (bus_count_on (starts_at t) t x w) ∙ last_on (starts_at t) t x w;
     rows = row_on;
-    degree_answers = λ bus. rw (holds_on, bus_count_on (starts_at t) t x w, row_on bus);
-    row_answers = λ bus. simp (holds_on, bus_count_on (starts_at t) t x w, row_on bus);
-    row_places = λ bus. simp (holds_on, bus_count_on (starts_at t) t x w, starts_on (starts_at t) t x w);
-    place_answers = λ bus. simp (holds_on, bus_count_on (starts_at t) t x w, starts_on (starts_at t) t x w, row_on bus);
+    degree_answers = λ held bus. rw (bus_count_on (starts_at t) t x w, row_on bus);
+    row_answers = λ held bus. simp (bus_count_on (starts_at t) t x w, row_on bus);
+    row_places = λ held bus. simp (bus_count_on (starts_at t) t x w, starts_on (starts_at t) t x w);
+    place_answers = λ held bus. simp (bus_count_on (starts_at t) t x w, starts_on (starts_at t) t x w, row_on bus);
   }
 
 -- whatever follows a table in the slice, x or y
@@ -71,12 +77,14 @@ beyond t x y w =
     let b = on t y w in
     record {
       judged = a.judged ∙ sym b.judged;
+      judged_one_way = a.judged_one_way ∙ sym b.judged_one_way;
       sizes = a.sizes ∙ sym b.sizes;
       needed = a.needed ∙ sym b.needed;
       weighed = a.weighed ∙ sym b.weighed;
+      numbered = a.numbered ∙ sym b.numbered;
       rows = λ i. a.rows i ∙ sym (b.rows i);
-      degree_answers = λ bus. a.degree_answers bus ∙ sym (b.degree_answers bus);
-      row_answers = λ bus. a.row_answers bus ∙ sym (b.row_answers bus);
-      row_places = λ bus. a.row_places bus ∙ sym (b.row_places bus);
-      place_answers = λ bus. a.place_answers bus ∙ sym (b.place_answers bus);
+      degree_answers = λ held bus. a.degree_answers held bus ∙ sym (b.degree_answers held bus);
+      row_answers = λ held bus. a.row_answers held bus ∙ sym (b.row_answers held bus);
+      row_places = λ held bus. a.row_places held bus ∙ sym (b.row_places held bus);
+      place_answers = λ held bus. a.place_answers held bus ∙ sym (b.place_answers held bus);
     }

@@ -1,34 +1,40 @@
 -- Each test of a table passes exactly where its facts hold: `…-facts` and `…-test`. `holds-facts` and `holds_test` are the two together.
-use Rattle.std.specs.Prelude.{Bool, false, ◌&&◌, List, ◌≡◌, ℕ, ◌+◌, ◌≤◌, ◌<◌, eqb, length}
-use Rattle.std.proofs.Math.Bool.{true, not, and-true}
+use Rattle.std.specs.Prelude.{Bool, false, ◌&&◌, List, ◌≡◌, refl, ℕ, ◌+◌, ◌≤◌, ◌<◌, eqb, length}
+use Rattle.std.proofs.Math.Bool.{true, not, and-true, and_comm}
 use Rattle.std.proofs.Math.Path.{sym, ap}
 use Rattle.std.proofs.Common.{◌∙◌, arith}
 use borrow.Author.Tests.{leb-true, ltb-true, eqb-true, eqb-false, not-true, le-leb, lt-ltb, eq-eqb, ne_eqb}
 use Rattle.std.proofs.Math.Dec.{leb, ltb}
 use Rattle.lists.specs.Lists.{has, at}
 use Rattle.lists.specs.Below.{all_below}
-use Rattle.lists.proofs.Tests.{and_both, and_left, and_right, and_fails_left}
+use Rattle.lists.proofs.Tests.{and_both, and_left, and_right}
 use Rattle.lists.proofs.Loops.{all_below-at, all_below_by, all_below-same}
 use Rattle.table_spec.specs.Limits.{max_buses, max_degree, max_need, max_weight}
-use Rattle.table_spec.specs.Layout.{row_at, row_size, bus_count, needs, weights, starts, entries, neighbour_numbers, starts_at, row}
+use Rattle.table_spec.specs.Layout.{row_at, row_size, bus_count, needs, weights, starts, entries, neighbour_numbers, starts_at, row, degree}
 use Rattle.table_spec.proofs.Rows.{row-length, last-read, length-needs, length-weights, room}
-use Rattle.table_spec.specs.Holds.{within, agree, complete, in_range, needs_in_range, weights_in_range, sound_buses, never_fall, short_rows, valid_entry, valid_row, valid_rows, sound_rows, mirrored, two_way, can_be_met, needs_can_be_met, holds, Complete, InRange, NeedsInRange, WeightsInRange, SoundBuses, Steps, ValidRow, SoundRows, Mirrored, Holds}
+use Rattle.table_spec.specs.Holds.{within, agree, complete, in_range, needs_in_range, weights_in_range, sound_buses, never_fall, short_rows, valid_entry, valid_row, valid_rows, sound_rows, mirrored, sound_in, mirrored_in, two_way, can_be_met, needs_can_be_met, holds, holds_one_way, Complete, InRange, NeedsInRange, WeightsInRange, SoundBuses, Steps, ValidRow, SoundRows, Mirrored, Holds, HoldsOneWay}
 
-pub within_test : (a b x : ℕ) → a ≤ x → x ≤ b → within a b x ≡ true
+pub within-test : (a b x : ℕ) → a ≤ x → x ≤ b → within a b x ≡ true
 unfolding within
-within_test a b x p q = and_both (leb a x) (leb x b) (le-leb a x p) (le-leb x b q)
+within-test a b x p q = and_both (leb a x) (leb x b) (le-leb a x p) (le-leb x b q)
 
 pub within_facts : (a b x : ℕ) → within a b x ≡ true → (a ≤ x) × (x ≤ b)
 unfolding within
 within_facts a b x w = (leb-true a x (and_left (leb a x) (leb x b) w), leb-true x b (and_right (leb a x) (leb x b) w))
 
+-- the third of four tests, behind the others
+and-behind : (a b c d : Bool) → (a && (b && c) && d) ≡ (a && b && d && c)
+and-behind true true c d = and_comm c d
+and-behind true false c d = refl
+and-behind false b c d = refl
+
 agree_facts : (a b : Bool) → agree a b ≡ true → a ≡ b
 agree_facts true b w = sym w
 agree_facts false b w = sym (not-true b w)
 
-agree_test : (a b : Bool) → a ≡ b → agree a b ≡ true
-agree_test a true e = rw e
-agree_test a false e = rw e
+agree-test : (a b : Bool) → a ≡ b → agree a b ≡ true
+agree-test a true e = rw e
+agree-test a false e = rw e
 
 -- ---- the entries
 
@@ -43,16 +49,16 @@ module _ (from : ℕ) (t : List ℕ) where
         whole = leb-true _ _ (and_right (within 1 max_buses (bus_count t)) _ w);
       }
 
-  pub complete_test : Complete from t → complete from t ≡ true
+  pub complete-test : Complete from t → complete from t ≡ true
   unfolding complete
-  complete_test w =
-      and_both _ _ (within_test 1 max_buses (bus_count t) w.least w.most) (le-leb (entries from t) (length t) w.whole)
+  complete-test w =
+      and_both _ _ (within-test 1 max_buses (bus_count t) w.least w.most) (le-leb (entries from t) (length t) w.whole)
 
   -- as code tests it: the bus count was read into n and the last start into x
   pub complete-read : {n x : ℕ} → n ≡ bus_count t → x ≡ at t (from + n) → 1 ≤ n → n ≤ max_buses → leb (from + n + 1 + x) (length t) ≡ complete from t
   unfolding complete
   complete-read {n} {x} e p a b =
-      let w : within 1 max_buses (bus_count t) ≡ true = within_test 1 max_buses (bus_count t) (omega arith) (omega arith) in
+      let w : within 1 max_buses (bus_count t) ≡ true = within-test 1 max_buses (bus_count t) (omega arith) (omega arith) in
       let q : from + n + 1 + x ≡ entries from t = omega (arith, last-read from t e p) in
       rw (w, q)
 
@@ -63,9 +69,9 @@ module _ (most : ℕ) (l : List ℕ) where
   unfolding in_range
   range_facts w i b = within_facts 1 most (at l i) (all_below-at _ (length l) w b)
 
-  pub range_test : InRange most l → in_range most l ≡ true
+  pub range-test : InRange most l → in_range most l ≡ true
   unfolding in_range
-  range_test f = all_below_by _ (length l) (λ i b. within_test 1 most (at l i) (f i b).0 (f i b).1)
+  range-test f = all_below_by _ (length l) (λ i b. within-test 1 most (at l i) (f i b).0 (f i b).1)
 
 -- ---- whether needs can be met, by the same degrees found otherwise
 
@@ -125,9 +131,9 @@ module _ (n : ℕ) (s l : List ℕ) where
         valid = λ i b. valid_facts n i (row_at s l i) (all_below-at _ n (and_right (eqb (at s 0) 0 && never_fall n s && short_rows n s) _ w) b);
       }
 
-  pub rows_test : SoundRows n s l → sound_rows n s l ≡ true
+  pub rows-test : SoundRows n s l → sound_rows n s l ≡ true
   unfolding sound_rows valid_rows
-  rows_test w =
+  rows-test w =
       let p = steps_test n s w.spans.steps in
       rw (eq-eqb (at s 0) 0 w.first, and_left (never_fall n s) (short_rows n s) p, and_right (never_fall n s) (short_rows n s) p)
       (all_below_by _ n (λ i b. valid_test n i (row_at s l i) (w.valid i b)))
@@ -145,9 +151,9 @@ module _ (n : ℕ) (s l : List ℕ) where
       (all_below-at (λ j. agree (has j (row_at s l i)) (has i (row_at s l j))) n
       (all_below-at (λ i. all_below n (λ j. agree (has j (row_at s l i)) (has i (row_at s l j)))) n w b) c)
 
-  pub mirrored_test : Mirrored n s l → mirrored n s l ≡ true
+  pub mirrored-test : Mirrored n s l → mirrored n s l ≡ true
   unfolding mirrored
-  mirrored_test f = all_below_by _ n (λ i b. all_below_by _ n (λ j c. agree_test _ _ (f i j b c)))
+  mirrored-test f = all_below_by _ n (λ i b. all_below_by _ n (λ j c. agree-test _ _ (f i j b c)))
 
 -- ---- a table, as code tests it: its sections were read into n, s and l
 
@@ -155,37 +161,33 @@ module _ (from : ℕ) (t : List ℕ) {n : ℕ} {s l : List ℕ} (en : n ≡ bus_
   pub room_read : Complete from t → (n < length s) × (at s n ≤ length l)
   room_read w = rw (en, es, el) (room from t w)
 
-  pub two_way_fails : sound_rows n s l ≡ false → false ≡ two_way from t
-  unfolding two_way
-  two_way_fails f = sym (and_fails_left _ _ (rw (en, es, el) at f))
-
-  pub two_way_read : {b : Bool} → sound_rows n s l ≡ true → b ≡ mirrored n s l → b ≡ two_way from t
-  unfolding two_way
-  two_way_read r m = rw (rw (en, es, el) at r) (rw (en, es, el) at m)
-
-module _ (from : ℕ) (t : List ℕ) where
-  pub two_way_facts : Complete from t → two_way from t ≡ true
-      → SoundRows (bus_count t) (starts from t) (neighbour_numbers from t) × Mirrored (bus_count t) (starts from t) (neighbour_numbers from t)
-  unfolding two_way
-  two_way_facts c w =
-      let g = room from t c in
-      let sound = sound_rows (bus_count t) (starts from t) (neighbour_numbers from t) in
-      (rows_facts _ _ _ g.0 g.1 (and_left sound _ w), mirrored_facts _ _ _ (and_right sound _ w))
-
-  pub two_way_test : SoundRows (bus_count t) (starts from t) (neighbour_numbers from t)
-      → Mirrored (bus_count t) (starts from t) (neighbour_numbers from t) → two_way from t ≡ true
-  unfolding two_way
-  two_way_test r m = and_both _ _ (rows_test _ _ _ r) (mirrored_test _ _ _ m)
+  pub sound_read : sound_rows n s l ≡ sound_in from t
+  sound_read = rw (en, es, el)
 
 -- ---- a network
 
 module _ (t : List ℕ) where
+  -- a network of two-way lines has all that one of one-way lines must have
+  pub as_one_way : Holds t → HoldsOneWay t
+  as_one_way w = record { shape = w.shape; weighty = w.weighty; limited = w.limited; met = w.met }
+
+  -- and that is enough where each row has a bus exactly if the bus's own row has the row's
+  pub as_two_way : HoldsOneWay t → ((i j : ℕ) → i < bus_count t → j < bus_count t → has j (row t i) ≡ has i (row t j)) → Holds t
+  unfolding row
+  as_two_way w m = record { shape = w.shape; mirrored = m; weighty = w.weighty; limited = w.limited; met = w.met }
+
   -- the needs, and the weights, between their limits
+  pub one_way_needs : HoldsOneWay t → NeedsInRange (needs t)
+  one_way_needs w i b = let l : i < bus_count t = omega (arith, length-needs t w.shape.complete) in (w.shape.needed i l, w.limited i l)
+
+  pub one_way_weights : HoldsOneWay t → WeightsInRange (weights t)
+  one_way_weights w i b = let l : i < bus_count t = omega (arith, length-weights t w.shape.complete) in (w.weighty i l, w.shape.weighed i l)
+
   pub holds-needs : Holds t → NeedsInRange (needs t)
-  holds-needs w i b = let l : i < bus_count t = omega (arith, length-needs t w.shape.complete) in (w.shape.needed i l, w.limited i l)
+  holds-needs w = one_way_needs (as_one_way w)
 
   pub holds-weights : Holds t → WeightsInRange (weights t)
-  holds-weights w i b = let l : i < bus_count t = omega (arith, length-weights t w.shape.complete) in (w.weighty i l, w.shape.weighed i l)
+  holds-weights w = one_way_weights (as_one_way w)
 
   pub buses_facts : sound_buses t ≡ true → SoundBuses t
   buses_facts w =
@@ -196,39 +198,57 @@ module _ (t : List ℕ) where
       let g = range_facts max_weight (weights t) (and_right (complete from t && needs_in_range (needs t)) _ w) in
       record { complete = c; needed = λ i b. f i (omega (arith, length-needs t c)); weighed = λ i b. g i (omega (arith, length-weights t c)) }
 
-  pub holds_facts : holds t ≡ true → Holds t
-  unfolding holds
-  holds_facts w =
+  pub one_way_facts : holds_one_way t ≡ true → HoldsOneWay t
+  unfolding holds_one_way
+  one_way_facts w =
       let from = starts_at t in
-      let w1 = and_left (sound_buses t && two_way from t) _ w in
+      let w1 = and_left (sound_buses t && sound_in from t) _ w in
       let s = buses_facts (and_left (sound_buses t) _ w1) in
-      let r = two_way_facts from t s.complete (and_right (sound_buses t) _ w1) in
+      let g = room from t s.complete in
       record {
-        shape = record { complete = s.complete; needed = λ i b. (s.needed i b).0; weighed = λ i b. (s.weighed i b).1; rows = r.0 };
-        mirrored = r.1;
+        shape = record {
+          complete = s.complete;
+          needed = λ i b. (s.needed i b).0;
+          weighed = λ i b. (s.weighed i b).1;
+          rows = rows_facts _ _ _ g.0 g.1 (and_right (sound_buses t) _ w1);
+        };
         weighty = λ i b. (s.weighed i b).0;
         limited = λ i b. (s.needed i b).1;
-        met = λ i b. all_below-at _ (bus_count t) (and_right (sound_buses t && two_way from t) _ w) b;
+        met = λ i b. all_below-at _ (bus_count t) (and_right (sound_buses t && sound_in from t) _ w) b;
       }
 
-  pub holds_test : Holds t → holds t ≡ true
-  unfolding holds
-  holds_test w =
+  pub one_way_test : HoldsOneWay t → holds_one_way t ≡ true
+  unfolding holds_one_way
+  one_way_test w =
       rw (
-        complete_test _ t w.shape.complete,
-        range_test max_need (needs t) (holds-needs w),
-        range_test max_weight (weights t) (holds-weights w),
-        two_way_test _ t w.shape.rows w.mirrored,
+        complete-test _ t w.shape.complete,
+        range-test max_need (needs t) (one_way_needs w),
+        range-test max_weight (weights t) (one_way_weights w),
+        rows-test _ _ _ w.shape.rows,
       )
       (all_below_by _ (bus_count t) w.met)
 
+  -- two-way lines are one-way lines that are mirrored
+  pub holds_both : holds t ≡ (holds_one_way t && mirrored_in (starts_at t) t)
+  unfolding holds holds_one_way two_way
+  holds_both = and-behind (sound_buses t) (sound_in (starts_at t) t) (mirrored_in (starts_at t) t) (needs_can_be_met (bus_count t) (needs t) (degree t))
+
+  pub holds_facts : holds t ≡ true → Holds t
+  unfolding row
+  holds_facts w =
+      let w = sym holds_both ∙ w in
+      as_two_way (one_way_facts (and_left (holds_one_way t) _ w)) (mirrored_facts _ _ _ (and_right (holds_one_way t) _ w))
+
+  pub holds_test : Holds t → holds t ≡ true
+  holds_test w = holds_both ∙ and_both _ _ (one_way_test (as_one_way w)) (mirrored-test _ _ _ w.mirrored)
+
   -- as code tests it: row starts, which begin at `from`, were read into s, needs into q and weights into v, and the tests of entries and rows were passed
-  module _ {from : ℕ} {s q v : List ℕ} (eh : from ≡ starts_at t) (es : s ≡ starts from t) (eq : q ≡ needs t) (ev : v ≡ weights t) (c : complete from t ≡ true) (r : two_way from t ≡ true) where
+  module _ {from : ℕ} {s q v : List ℕ} (eh : from ≡ starts_at t) (es : s ≡ starts from t) (eq : q ≡ needs t) (ev : v ≡ weights t) (c : complete from t ≡ true) (r : sound_in from t ≡ true) where
     whole : Complete (starts_at t) t
     whole = rw eh at (complete_facts from t c)
 
     sound : SoundRows (bus_count t) (starts (starts_at t) t) (neighbour_numbers (starts_at t) t)
-    sound = (two_way_facts (starts_at t) t whole (rw eh at r)).0
+    sound = let g = room (starts_at t) t whole in rows_facts _ _ _ g.0 g.1 (rw eh at r)
 
     counted : length q ≡ bus_count t
     counted = rw eq (length-needs t whole)
@@ -238,9 +258,17 @@ module _ (t : List ℕ) where
         (counted ∙ sym (ap length ev ∙ length-weights t whole), rw (counted, es, eh) sound.spans.long, rw (counted, es, eh) sound.spans.steps)
 
     -- b is the test of needs and weights
-    pub holds_read : {b : Bool} → b ≡ (needs_in_range q && weights_in_range v && needs_can_be_met (length q) q (row_size s)) → b ≡ holds t
-    unfolding holds row
-    holds_read m =
+    pub one_way_read : {b : Bool} → b ≡ (needs_in_range q && weights_in_range v && needs_can_be_met (length q) q (row_size s)) → b ≡ holds_one_way t
+    unfolding holds_one_way row
+    one_way_read m =
         rw (rw eh at c, rw eh at r, and-true (needs_in_range (needs t) && weights_in_range (weights t)))
         (rw (counted, eq, ev, es, eh) at m
         ∙ ap (λ x. needs_in_range (needs t) && weights_in_range (weights t) && x) (met_same (bus_count t) (needs t) (λ i b. sym (row-length _ _ _ sound.spans i b))))
+
+  -- as code tests whether lines run both ways: a slice that holds a network of one-way lines was read into from, n, s and l
+  module _ (h : holds_one_way t ≡ true) {from n : ℕ} {s l : List ℕ} (eh : from ≡ starts_at t) (en : n ≡ bus_count t) (es : s ≡ starts from t) (el : l ≡ neighbour_numbers from t) where
+    pub rows_held : SoundRows n s l × (n ≤ max_buses)
+    rows_held = rw (en, es, el, eh) ((one_way_facts h).shape.rows, (one_way_facts h).shape.complete.most)
+
+    pub both_read : {b : Bool} → b ≡ mirrored n s l → b ≡ holds t
+    both_read m = rw (holds_both, h) (rw (en, es, el, eh) at m)

@@ -4,14 +4,16 @@ use mathlib.Core.List.{List, [], ◌∷◌, ◌++◌, append_assoc, append-nil}
 use Rattle.std.proofs.Math.Path.{refl, sym, ap, ap₂}
 use Rattle.std.proofs.Common.{◌∙◌, arith}
 use Rattle.std.proofs.Math.ListN.{length, take, length-append}
+use Rattle.std.proofs.Math.Seq.{take_at}
 use Rattle.lists.specs.Lists.{has, at, part}
 use Rattle.lists.specs.Below.{join_below, map_below}
 use Rattle.lists.proofs.Places.{at-append, at-behind, part_between}
 use Rattle.lists.proofs.Loops.{join_below-next}
-use Rattle.lists.proofs.JoinBelow.{length-map_below, map_below-at, join_below-at, map_below-same, join_below-same}
+use Rattle.lists.proofs.JoinBelow.{length-map_below, length-join_below-le, map_below-at, join_below-at, map_below-same, join_below-same}
 use Rattle.table_spec.specs.Limits.{max_buses, max_degree, max_weight}
 use Rattle.table_spec.specs.Layout.{row_at, laid, bus_count, needs, weights, starts, last, entries, neighbour_numbers, weights_from, starts_from, starts_at, row, table_of}
-use Rattle.table_spec.specs.Holds.{can_be_met, NeedsInRange, WeightsInRange, ValidRow, SoundRows, Mirrored, Scorable, Holds}
+use Rattle.table_spec.specs.Holds.{can_be_met, NeedsInRange, WeightsInRange, ValidRow, SoundRows, Mirrored, Scorable, Holds, HoldsOneWay}
+use Rattle.table_spec.proofs.Facts.{as_two_way}
 use Rattle.table_spec.specs.TableOutcomes.{SameNetwork}
 use Rattle.table_spec.proofs.BeyondTable.{beyond}
 
@@ -35,6 +37,28 @@ module _ (n : ℕ) (rows : ℕ → List ℕ) where
       ap₂ (λ a e. part a e (join_below n rows)) (first-at i (omega arith)) (first-at (i + 1) (omega arith))
       ∙ ap₂ (λ k l. take k (drop (length (join_below i rows)) l)) z (sym (append-nil (join_below n rows)))
       ∙ join_below-at rows n [] b
+
+  -- rows that were laid out at the front of a list, read back: the starts into s, the numbers into l
+  module _ (rest : List ℕ) {m : ℕ} (em : m ≡ length (join_below n rows)) where
+    front-starts : take (n + 1) (laid n rows ++ rest) ≡ firsts
+    unfolding laid
+    front-starts = ap (take (n + 1)) (append_assoc firsts (join_below n rows) rest) ∙ take_at firsts _ _ length-firsts
+
+    front-numbers : part (n + 1) (n + 1 + m) (laid n rows ++ rest) ≡ join_below n rows
+    unfolding laid
+    front-numbers = ap (part (n + 1) (n + 1 + m)) (append_assoc firsts (join_below n rows) rest) ∙ part_between firsts (join_below n rows) rest {a = n + 1} {e = n + 1 + m} (sym length-firsts) (omega (arith, em))
+
+    module _ {s l : List ℕ} (es : s ≡ take (n + 1) (laid n rows ++ rest)) (el : l ≡ part (n + 1) (n + 1 + m) (laid n rows ++ rest)) where
+      pub front-row : (i : ℕ) → i < n → row_at s l i ≡ rows i
+      front-row i b = rw (es ∙ front-starts, el ∙ front-numbers) (row_back i b)
+
+      pub front_lies : (i : ℕ) → i < n → (i + 1 < length s) × (at s i ≤ at s (i + 1)) × (at s (i + 1) ≤ length l)
+      front_lies i b =
+          rw (es ∙ front-starts, el ∙ front-numbers) (
+            omega (arith, length-firsts),
+            omega (arith, first-at i (omega arith), first-at (i + 1) (omega arith), longer i),
+            omega (arith, first-at (i + 1) (omega arith), length-join_below-le rows {i = i + 1} n (omega arith)),
+          )
 
   -- a table of n buses whose rows were laid out behind `front`
   module _ (front rest : List ℕ) {t : List ℕ} {from : ℕ} (shape : t ≡ front ++ (laid n rows ++ rest)) (begin : from ≡ length front) (count : bus_count t ≡ n) where
@@ -147,17 +171,21 @@ module _ (n : ℕ) (q w : List ℕ) (rows : ℕ → List ℕ) (rest : List ℕ) 
   made-mirrored mirror i j b c = ap (has j) (made_row i b) ∙ mirror i j b c ∙ sym (ap (has i) (made_row j c))
 
   -- and if needs and weights keep their limits and needs can be met, it is a network's
-  pub made_holds : 1 ≤ n → n ≤ max_buses → NeedsInRange q → WeightsInRange w → ((i : ℕ) → i < n → ValidRow n i (rows i)) → ((i : ℕ) → i < n → length (rows i) ≤ max_degree)
-      → ((i j : ℕ) → i < n → j < n → has j (rows i) ≡ has i (rows j)) → ((i : ℕ) → i < n → can_be_met (at q i) (length (rows i)) ≡ true) → Holds made
+  pub made-one_way : 1 ≤ n → n ≤ max_buses → NeedsInRange q → WeightsInRange w → ((i : ℕ) → i < n → ValidRow n i (rows i)) → ((i : ℕ) → i < n → length (rows i) ≤ max_degree)
+      → ((i : ℕ) → i < n → can_be_met (at q i) (length (rows i)) ≡ true) → HoldsOneWay made
   unfolding table_of at
-  made_holds least most needed weighed valid short mirror met =
+  made-one_way least most needed weighed valid short met =
       record {
         shape = made_scorable least most (λ i b. (needed i (omega (arith, long))).0) (λ i b. (weighed i (omega (arith, wide))).1) valid short;
-        mirrored = made-mirrored mirror;
         weighty = λ i b. rw made-weights (weighed i (omega (arith, wide))).0;
         limited = λ i b. rw made-needs (needed i (omega (arith, long))).1;
         met = λ i b. rw (made-needs, made_row i b) (met i b);
       }
+
+  pub made_holds : 1 ≤ n → n ≤ max_buses → NeedsInRange q → WeightsInRange w → ((i : ℕ) → i < n → ValidRow n i (rows i)) → ((i : ℕ) → i < n → length (rows i) ≤ max_degree)
+      → ((i j : ℕ) → i < n → j < n → has j (rows i) ≡ has i (rows j)) → ((i : ℕ) → i < n → can_be_met (at q i) (length (rows i)) ≡ true) → Holds made
+  unfolding row
+  made_holds least most needed weighed valid short mirror met = as_two_way made (made-one_way least most needed weighed valid short met) (made-mirrored mirror)
 
 -- what follows a table that was made never matters
 module _ (n : ℕ) (q w : List ℕ) (rows : ℕ → List ℕ) (long : length q ≡ n) (wide : length w ≡ n) where

@@ -4,6 +4,7 @@ pub mod Laid
 pub mod LaidAgain
 pub mod LineCount
 pub mod LinePairs
+pub mod PairsBy
 pub mod RowPlaces
 pub mod Rows
 pub mod TableCauses

@@ -9,9 +9,9 @@ use Rattle.lists.proofs.Tests.{fails}
 use Rattle.lists.proofs.Counts.{has_in}
 use Rattle.lists.proofs.SumsBelow.{sum_below-same, sum_below_mirror, length_members}
 use Rattle.lists.proofs.JoinBelow.{length-join_below}
-use Rattle.table_spec.specs.Limits.{max_degree, max_lines, max_entries}
+use Rattle.table_spec.specs.Limits.{max_degree, max_lines, max_entries, max_one_way_lines}
 use Rattle.table_spec.specs.Layout.{row_at, bus_count, last, entries, neighbour_numbers, starts_at, row, lines, table_entries}
-use Rattle.table_spec.specs.Holds.{SoundRows, Mirrored, Holds}
+use Rattle.table_spec.specs.Holds.{SoundRows, Mirrored, Scorable, Holds}
 use Rattle.table_spec.proofs.Rows.{row-length, valid_once, valid_below, valid_others, last_start, length-numbers}
 
 module _ (n : ℕ) (s l : List ℕ) (w : SoundRows n s l) where
@@ -35,6 +35,20 @@ module _ (n : ℕ) (s l : List ℕ) (w : SoundRows n s l) where
       ∙ sum_below_mirror (λ i j. indicator (has j (row_at s l i))) n (λ i j b c. ap indicator (m i j b c))
       (λ i b. ap indicator (fails _ (λ e. valid_others (w.valid i b) (has_in i (row_at s l i) e))))
 
+-- one-way lines: a number for each
+module _ (t : List ℕ) (w : Scorable t) where
+  -- all rows together
+  pub length-all : length (join_below (bus_count t) (row t)) ≡ last (starts_at t) t
+  unfolding row
+  length-all =
+      length-join_below (bus_count t) (row t) ∙ sym (start_sum _ _ _ w.rows (bus_count t) (omega arith)) ∙ last_start (starts_at t) t w.complete
+
+  pub last-le : last (starts_at t) t ≤ bus_count t * max_degree
+  last-le = omega (arith, last_start (starts_at t) t w.complete, start_le _ _ _ w.rows (bus_count t) (omega arith))
+
+  pub one_way_lines-le : last (starts_at t) t ≤ max_one_way_lines
+  one_way_lines-le = omega (arith, last-le, w.complete.most)
+
 module _ (t : List ℕ) (w : Holds t) where
   -- the number of neighbour numbers is even, and m is half of it
   pub two_for_each : last (starts_at t) t ≡ 2 * lines t
@@ -45,19 +59,14 @@ module _ (t : List ℕ) (w : Holds t) where
   half = omega (arith, length-numbers (starts_at t) t w.shape.complete, two_for_each)
 
   pub length-rows : length (join_below (bus_count t) (row t)) ≡ 2 * lines t
-  unfolding row
-  length-rows =
-      length-join_below (bus_count t) (row t) ∙ sym (start_sum _ _ _ w.shape.rows (bus_count t) (omega arith)) ∙ last_start (starts_at t) t w.shape.complete ∙ two_for_each
-
-  last-le : last (starts_at t) t ≤ bus_count t * max_degree
-  last-le = omega (arith, last_start (starts_at t) t w.shape.complete, start_le _ _ _ w.shape.rows (bus_count t) (omega arith))
+  length-rows = length-all t w.shape ∙ two_for_each
 
   pub lines-le : lines t ≤ max_lines
-  lines-le = omega (arith, two_for_each, last-le, w.shape.complete.most)
+  lines-le = omega (arith, two_for_each, last-le t w.shape, w.shape.complete.most)
 
   -- the table has the entries that its buses and lines ask for
   pub entries-all : entries (starts_at t) t ≡ table_entries (bus_count t) (lines t)
   entries-all = omega (arith, two_for_each)
 
   pub entries-le : entries (starts_at t) t ≤ max_entries
-  entries-le = omega (arith, last-le, w.shape.complete.most)
+  entries-le = omega (arith, last-le t w.shape, w.shape.complete.most)

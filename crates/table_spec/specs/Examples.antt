@@ -3,9 +3,9 @@ use Rattle.std.specs.Prelude.{true, false, List, [], ◌∷◌, ◌++◌, map, �
 use Rattle.refusals.specs.Outcomes.{gives, refuses}
 use Rattle.lists.specs.Lists.{at}
 use Rattle.lists.specs.Below.{all_below, sum_below, join_below, map_below, list_below}
-use Rattle.table_spec.specs.Limits.{max_lines, max_entries, max_bytes}
+use Rattle.table_spec.specs.Limits.{max_lines, max_entries, max_bytes, max_one_way_lines, max_one_way_entries, max_one_way_bytes}
 use Rattle.table_spec.specs.Layout.{row_at, laid, needs, weights, starts, neighbour_numbers, row, need, weight, lines, table_of}
-use Rattle.table_spec.specs.Holds.{within, complete, in_range, needs_in_range, never_fall, short_rows, valid_entry, valid_row, valid_rows, sound_rows, mirrored, two_way, can_be_met, holds}
+use Rattle.table_spec.specs.Holds.{within, complete, in_range, needs_in_range, never_fall, short_rows, valid_entry, valid_row, valid_rows, sound_rows, mirrored, two_way, can_be_met, holds, holds_one_way}
 use Rattle.table_spec.specs.Lines.{pairs, lower_end, upper_end}
 use Rattle.table_spec.specs.TableOutcomes.{degree_outcome, row_outcome, row_before, row_place_outcome}
 
@@ -17,6 +17,9 @@ most-entries = refl
 
 most_bytes : max_bytes ≡ 25094
 most_bytes = refl
+
+most-one_way : (max_one_way_lines ≡ 11776) × (max_one_way_entries ≡ 13314) × (max_one_way_bytes ≡ 48646)
+most-one_way = (refl, refl, refl)
 
 -- the scope's Path: three buses in a row, needs 1, but k at bus 1, and weights 1
 unfoldable pub path : ℕ → List ℕ
@@ -46,6 +49,16 @@ networks_hold = refl
 -- Path with bus 2's row naming bus 0, which does not name bus 2
 one_sided : List ℕ
 one_sided = 3 ∷ 1 ∷ 1 ∷ 1 ∷ 1 ∷ 1 ∷ 1 ∷ 0 ∷ 1 ∷ 3 ∷ 4 ∷ 1 ∷ 0 ∷ 2 ∷ 0 ∷ []
+
+-- three buses, of which 0 leads into 1 and 2, and 1 into 2; needs j at bus 0, 1 at bus 1 and k at bus 2
+feeder : ℕ → ℕ → List ℕ
+feeder j k = 3 ∷ j ∷ 1 ∷ k ∷ 1 ∷ 1 ∷ 1 ∷ 0 ∷ 0 ∷ 1 ∷ 3 ∷ 0 ∷ 0 ∷ 1 ∷ []
+
+-- of one-way lines: what is one of two-way lines; rows that are not mirrored; needs up to the number of buses that lead in, and 1 where none does
+one-way-held :
+    map holds_one_way (path 1 ∷ one_sided ∷ feeder 1 1 ∷ feeder 1 2 ∷ feeder 1 3 ∷ feeder 2 1 ∷ []) ≡ true ∷ true ∷ true ∷ true ∷ false ∷ false ∷ []
+unfolding path one_sided feeder holds_one_way complete within in_range sound_rows never_fall short_rows valid_rows valid_row valid_entry row_at needs weights starts neighbour_numbers row at all_below
+one-way-held = refl
 
 others : List (List ℕ)
 unfolding one_sided path weighted

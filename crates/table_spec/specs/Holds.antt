@@ -1,4 +1,4 @@
--- What makes a slice hold a network: the scope's paragraph, clause by clause, and the clauses of orders 5 and 7, as tests that compute and as facts. `Facts` shows
+-- What makes a slice hold a network: the scope's paragraph, clause by clause, and the clauses of orders 5, 7 and 8, as tests that compute and as facts. `Facts` shows
 -- them equivalent.
 -- Definitions only.
 use Rattle.std.specs.Prelude.{Bool, true, false, not, ◌&&◌, ◌||◌, List, ◌≡◌, ℕ, ◌+◌, ◌≤◌, ◌<◌, leb, ltb, eqb, length}
@@ -64,9 +64,15 @@ sound_rows n s l = eqb (at s 0) 0 && never_fall n s && short_rows n s && valid_r
 unfoldable pub mirrored : ℕ → List ℕ → List ℕ → Bool
 mirrored n s l = all_below n (λ i. all_below n (λ j. agree (has j (row_at s l i)) (has i (row_at s l j))))
 
--- the rows of a table are sound and mirrored
+-- the rows of a table are sound; they are mirrored; they are both
+abbrev pub sound_in : ℕ → List ℕ → Bool
+sound_in from t = sound_rows (bus_count t) (starts from t) (neighbour_numbers from t)
+
+abbrev pub mirrored_in : ℕ → List ℕ → Bool
+mirrored_in from t = mirrored (bus_count t) (starts from t) (neighbour_numbers from t)
+
 unfoldable pub two_way : ℕ → List ℕ → Bool
-two_way from t = sound_rows (bus_count t) (starts from t) (neighbour_numbers from t) && mirrored (bus_count t) (starts from t) (neighbour_numbers from t)
+two_way from t = sound_in from t && mirrored_in from t
 
 -- need k can be met at a bus of degree d: it does not exceed the degree; a bus without lines may have need 1
 abbrev pub can_be_met : ℕ → ℕ → Bool
@@ -79,6 +85,10 @@ needs_can_be_met n q degrees = all_below n (λ i. can_be_met (at q i) (degrees i
 -- a slice holds a network
 unfoldable pub holds : List ℕ → Bool
 holds t = sound_buses t && two_way (starts_at t) t && needs_can_be_met (bus_count t) (needs t) (degree t)
+
+-- a slice holds a network of one-way lines: row i lists the buses that lead into bus i, so many are its degree, and no mirrored entry is required
+unfoldable pub holds_one_way : List ℕ → Bool
+holds_one_way t = sound_buses t && sound_in (starts_at t) t && needs_can_be_met (bus_count t) (needs t) (degree t)
 
 -- ---- the same as facts
 
@@ -135,6 +145,13 @@ pub record Scorable (t : List ℕ) : Type 0 where
 pub record Holds (t : List ℕ) : Type 0 where
   pub shape : Scorable t
   pub mirrored : Mirrored (bus_count t) (starts (starts_at t) t) (neighbour_numbers (starts_at t) t)
+  pub weighty : (i : ℕ) → i < bus_count t → 1 ≤ at (weights t) i
+  pub limited : (i : ℕ) → i < bus_count t → at (needs t) i ≤ max_need
+  pub met : (i : ℕ) → i < bus_count t → can_be_met (at (needs t) i) (degree t i) ≡ true
+
+-- and a network's of one-way lines: all this but that lines run both ways
+pub record HoldsOneWay (t : List ℕ) : Type 0 where
+  pub shape : Scorable t
   pub weighty : (i : ℕ) → i < bus_count t → 1 ≤ at (weights t) i
   pub limited : (i : ℕ) → i < bus_count t → at (needs t) i ≤ max_need
   pub met : (i : ℕ) → i < bus_count t → can_be_met (at (needs t) i) (degree t i) ≡ true

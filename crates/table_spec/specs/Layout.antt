@@ -87,6 +87,10 @@ lines t = sum_below (bus_count t) (λ i. count_below i (λ j. has j (row t i)))
 abbrev pub table_entries : ℕ → ℕ → ℕ
 table_entries n m = 3 * n + 2 + 2 * m
 
+-- and that of n buses and m one-way lines, each of which is one neighbour number
+abbrev pub one_way_entries : ℕ → ℕ → ℕ
+one_way_entries n m = 3 * n + 2 + m
+
 -- the table of n buses with the needs q, the weights w and these rows
 unfoldable pub table_of : ℕ → List ℕ → List ℕ → (ℕ → List ℕ) → List ℕ
 table_of n q w rows = (n ∷ q ++ w) ++ laid n rows

@@ -2,7 +2,7 @@
 -- `Network::limits` says so, and no test of a table would be proved with another.
 -- Definitions only.
 use Rattle.std.specs.Prelude.{ℕ, ◌+◌, ◌*◌, ◌/◌}
-use Rattle.table_spec.specs.Layout.{table_entries}
+use Rattle.table_spec.specs.Layout.{table_entries, one_way_entries}
 
 -- buses of a network
 abbrev pub max_buses : ℕ
@@ -28,6 +28,24 @@ max_lines = max_buses * max_degree / 2
 abbrev pub max_entries : ℕ
 max_entries = table_entries max_buses max_lines
 
--- bytes of a network file: three counts of two bytes, a byte for each need, a record of four for each line, two for each weight
+-- bytes of a file of the most buses and of m records: three counts of two bytes, a byte for each need, a record of four for each line, two for each weight
+abbrev pub most_bytes : ℕ → ℕ
+most_bytes m = 2 + max_buses + 2 + 4 * m + 2 + 2 * max_buses
+
+-- bytes of a network file
 abbrev pub max_bytes : ℕ
-max_bytes = 2 + max_buses + 2 + 4 * max_lines + 2 + 2 * max_buses
+max_bytes = most_bytes max_lines
+
+-- ---- of one-way lines
+
+-- lines of a network: each leads into one bus
+abbrev pub max_one_way_lines : ℕ
+max_one_way_lines = max_buses * max_degree
+
+-- entries of a table
+abbrev pub max_one_way_entries : ℕ
+max_one_way_entries = one_way_entries max_buses max_one_way_lines
+
+-- bytes of a file
+abbrev pub max_one_way_bytes : ℕ
+max_one_way_bytes = most_bytes max_one_way_lines

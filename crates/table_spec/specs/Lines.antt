@@ -10,13 +10,23 @@ use Rattle.table_spec.specs.Layout.{bus_count, row}
 abbrev pub pair_number : ℕ → ℕ → ℕ
 pair_number a b = a * max_buses + b
 
--- is this the number of a pair of neighbours, by these rows, its lower bus first?
-abbrev pub is_pair : (ℕ → List ℕ) → ℕ → Bool
-is_pair rows c = ltb (c / max_buses) (c % max_buses) && has (c % max_buses) (rows (c / max_buses))
+-- the numbers of the pairs that a test of first and second bus passes, the first of n buses, ascending; pair k of them, from 0: its two buses
+abbrev pub pairs_by : ℕ → (ℕ → ℕ → Bool) → List ℕ
+pairs_by n p = list_below (n * max_buses) (λ c. p (c / max_buses) (c % max_buses))
+
+abbrev pub first_by : ℕ → (ℕ → ℕ → Bool) → ℕ → ℕ
+first_by n p k = at (pairs_by n p) k / max_buses
+
+abbrev pub second_by : ℕ → (ℕ → ℕ → Bool) → ℕ → ℕ
+second_by n p k = at (pairs_by n p) k % max_buses
+
+-- are these neighbours, by these rows, the lower bus first?
+abbrev pub is_pair : (ℕ → List ℕ) → ℕ → ℕ → Bool
+is_pair rows a b = ltb a b && has b (rows a)
 
 -- the numbers of all pairs of n buses, ascending
 unfoldable pub pairs : ℕ → (ℕ → List ℕ) → List ℕ
-pairs n rows = list_below (n * max_buses) (is_pair rows)
+pairs n rows = pairs_by n (is_pair rows)
 
 -- pair k of them, from 0: its two buses
 abbrev pub lower_bus : ℕ → (ℕ → List ℕ) → ℕ → ℕ

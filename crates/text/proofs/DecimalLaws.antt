@@ -77,9 +77,9 @@ decimal-value =
     (λ n l e. ap (digits_value 0) (decimal-large n l) ∙ digits_value-append 0 (decimal (n / 10)) _ ∙ omega (arith, e))
 
 -- the first digit of a number above zero is not `0`
-pub no_leading_zero : (n : ℕ) → 0 < n → 48 < at (decimal n) 0
+pub no_leading-zero : (n : ℕ) → 0 < n → 48 < at (decimal n) 0
 unfolding at
-no_leading_zero =
+no_leading-zero =
     by_tenths (λ n. 0 < n → 48 < at (decimal n) 0)
     (λ n l p. rw (decimal_small n l) (omega arith))
     (λ n l q p. rw (decimal-large n l, at-append (decimal (n / 10)) (digit (n % 10) ∷ []) 0 (decimal_pos (n / 10))) (q (omega arith)))

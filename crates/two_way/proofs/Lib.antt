@@ -1,3 +1,4 @@
 pub mod FirstGame
 pub mod SameTable
+pub mod SameTables
 pub mod TwoWaySound

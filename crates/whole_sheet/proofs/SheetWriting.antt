@@ -1,36 +1,37 @@
--- Numerators and lines, as code stores and writes them.
-use Rattle.std.specs.Prelude.{List, ◌++◌, ◌≡◌, ℕ, ◌+◌, ◌≤◌, length}
-use Rattle.std.proofs.Common.{sym, ap, subst, ◌∙◌, zero-le, add-one, arith}
-use Rattle.lists.specs.Lists.{at, put, WrittenAt}
-use Rattle.lists.specs.Below.{join_below, map_below}
-use Rattle.lists.proofs.Places.{at-append}
-use Rattle.lists.proofs.JoinBelow.{length-map_below, map_below-at, join_below-first}
-use Rattle.lists.proofs.Writes.{put_front, length-put, written-append}
-use Rattle.share_spec.specs.Network.{Network, denominator}
-use Rattle.share_spec.specs.Formula.{numerator}
-use Rattle.sheet.specs.Sheet.{sheet_line}
+-- Lines, as code writes them.
+use Rattle.std.specs.Prelude.{Bool, List, ◌++◌, ◌≡◌, ℕ, zero, suc, ◌+◌, ◌≤◌, length}
+use Rattle.std.proofs.Common.{sym, ap, ap₂, subst, ◌∙◌, zero-le, add-one, arith}
+use Rattle.lists.specs.Lists.{WrittenAt}
+use Rattle.lists.specs.Below.{join_below}
+use Rattle.lists.proofs.JoinBelow.{join_below-first, join_below-same}
+use Rattle.lists.proofs.Writes.{written-append}
+use Rattle.table_spec.specs.Layout.{bus_count, need, degree}
+use Rattle.share_spec.specs.TableNetwork.{table_network}
+use Rattle.share_spec.specs.ShareOutcomes.{Scored}
+use Rattle.sheet.specs.Sheet.{sheet_line, heading_text, bus_text}
+use Rattle.sheet.specs.LineRoom.{Short}
+use Rattle.sheet.proofs.LineFits.{line_fits}
 use Rattle.whole_sheet.specs.WholeSheet.{whole_sheet}
-use Rattle.whole_sheet.specs.SheetRoom.{Scored}
+use Rattle.whole_sheet.specs.SheetRoom.{line_text, sheet_text, LinesShort}
 use Rattle.whole_sheet.specs.SheetWriting.{bus_lines}
 
--- the numerators of a network were stored at the front of x
-pub scored : (N : Network) (x : List ℕ) {L : ℕ} {numerators : List ℕ} → N.buses ≤ length x → L ≡ denominator N → numerators ≡ put x 0 (map_below N.buses (numerator N))
-    → Scored N L numerators
-scored N x {numerators = numerators} l e p =
-    let first = length-map_below N.buses (numerator N) in
-    record {
-      over = e;
-      long = omega (arith, ap length p, length-put x 0 (map_below N.buses (numerator N)) (omega (arith, first)));
-      each = λ i b.
-          ap (λ l. at l i) (p ∙ put_front x (map_below N.buses (numerator N)))
-          ∙ at-append (map_below N.buses (numerator N)) _ i (omega (arith, first))
-          ∙ map_below-at (numerator N) N.buses b;
-    }
-
 -- the heading was written at the front of x, which left u, and those of n buses behind it, from place a on; e is the place behind them
-pub all-written : (N : Network) (x : List ℕ) {u y : List ℕ} {a e n : ℕ} → WrittenAt (sheet_line N 0) 0 x a u → n ≡ N.buses → WrittenAt (bus_lines N n) a u e y
-    → WrittenAt (whole_sheet N) 0 x e y
-all-written N x {y = y} {e = e} {n = n} first en rest =
-    let all : sheet_line N 0 ++ bus_lines N n ≡ whole_sheet N =
-    sym (join_below-first n (sheet_line N)) ∙ ap (λ k. join_below k (sheet_line N)) (sym (add-one n) ∙ ap (λ n. n + 1) en) in
-    subst (λ text. WrittenAt text 0 x e y) all (written-append x 0 (sheet_line N 0) (bus_lines N n) zero-le first rest)
+pub all-written : (t : List ℕ) (m L : ℕ) (z x : List ℕ) {u y : List ℕ} {a e n : ℕ} → WrittenAt (line_text t m L z 0) 0 x a u → n ≡ bus_count t → WrittenAt (bus_lines t m L z n) a u e y
+    → WrittenAt (sheet_text t m L z) 0 x e y
+all-written t m L z x {y = y} {e = e} {n = n} first en rest =
+    let all : line_text t m L z 0 ++ bus_lines t m L z n ≡ sheet_text t m L z =
+    sym (join_below-first n (line_text t m L z)) ∙ ap (λ k. join_below k (line_text t m L z)) (sym (add-one n) ∙ ap (λ n. n + 1) en) in
+    subst (λ text. WrittenAt text 0 x e y) all (written-append x 0 (line_text t m L z 0) (bus_lines t m L z n) zero-le first rest)
+
+-- a table's network that was scored, of which m lines were read
+module _ (t : List ℕ) (held : Bool) (lines : ℕ) (watched : ℕ → List ℕ) {m L : ℕ} {z : List ℕ} (em : m ≡ lines) (s : Scored (table_network t held lines watched) L z) where
+  line-scored : (i : ℕ) → i ≤ bus_count t → line_text t m L z i ≡ sheet_line (table_network t held lines watched) i
+  line-scored zero b = ap₂ (heading_text (bus_count t)) em s.over
+  line-scored (suc v) b = ap₂ (bus_text v (need t v) (degree t v)) (s.each v (omega arith)) s.over
+
+  -- has its sheet
+  pub sheet_scored : sheet_text t m L z ≡ whole_sheet (table_network t held lines watched)
+  sheet_scored = join_below-same _ _ (bus_count t + 1) (λ i b. line-scored i (omega arith))
+
+  pub lines_short : Short (table_network t held lines watched) → LinesShort t m L z
+  lines_short w i b = omega (arith, ap length (line-scored i b), line_fits w i b)

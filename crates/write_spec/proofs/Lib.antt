@@ -1,7 +1,9 @@
 pub mod GivenBack
 pub mod PairLaws
 pub mod ReadBack
+pub mod RecordsAgain
 pub mod WriteDue
 pub mod WrittenBytes
+pub mod WrittenFile
 pub mod WrittenWeights
 pub mod WrittenWords

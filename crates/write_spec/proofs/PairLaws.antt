@@ -1,18 +1,16 @@
 -- The records of a network's file are those of its pairs of neighbours.
 use Rattle.std.specs.Prelude.{Bool, cond, List, ◌≡◌, ℕ, ◌+◌, ◌*◌, ◌≤◌, length}
 use Rattle.std.proofs.Math.Path.{ap}
-use Rattle.std.proofs.Common.{◌∙◌, arith}
-use Rattle.lists.proofs.Tests.{split}
-use Rattle.table_spec.specs.Layout.{bus_count, needs, weights, row, lines}
+use Rattle.std.proofs.Common.{◌∙◌}
+use Rattle.table_spec.specs.Layout.{bus_count, weights, row, lines}
 use Rattle.table_spec.specs.Holds.{Holds}
-use Rattle.table_spec.proofs.Rows.{length-needs, length-weights}
+use Rattle.table_spec.proofs.Facts.{as_one_way}
 use Rattle.table_spec.specs.Lines.{lower_bus, upper_bus}
 use Rattle.table_spec.proofs.LinePairs.{joined-pairs, neighbour-below, length_pairs}
 use Rattle.write_spec.specs.FileOf.{record_of, pair_records, all_ones, weight_section, file_of}
+use Rattle.write_spec.proofs.WrittenFile.{length_with, section_length, section_le}
 use Rattle.write_spec.specs.WrittenWords.{listed}
 use Rattle.write_spec.proofs.WrittenWords.{length-listed}
-use Rattle.write_spec.proofs.WrittenBytes.{length_sections}
-use Rattle.write_spec.proofs.WrittenWeights.{length_section}
 
 module _ (t : List ℕ) (w : Holds t) where
   abbrev n : ℕ
@@ -29,14 +27,12 @@ module _ (t : List ℕ) (w : Holds t) where
   -- so many bytes its file has
   pub length-file_of : length (file_of t) ≡ 2 + bus_count t + 2 + 4 * lines t + length (weight_section (weights t))
   unfolding file_of
-  length-file_of = length_sections n (lines t) (needs t) (pair_records n (row t)) (weight_section (weights t)) (length-needs t w.shape.complete) length-pair_records
-
-  length-weight_section : length (weight_section (weights t)) ≡ cond (all_ones (weights t)) 0 (2 + 2 * bus_count t)
-  length-weight_section = length_section (weights t) ∙ ap (λ k. cond (all_ones (weights t)) 0 (2 + 2 * k)) (length-weights t w.shape.complete)
+  length-file_of = length_with t (as_one_way t w) (lines t) (pair_records n (row t)) length-pair_records
 
   -- as code counts them: the bus count was read into k, the number of lines into m, and whether all weights are 1 into ones
   pub bytes_read : {k m : ℕ} {ones : Bool} → k ≡ bus_count t → m ≡ lines t → ones ≡ all_ones (weights t) → length (file_of t) ≡ 2 + k + 2 + 4 * m + cond ones 0 (2 + 2 * k)
-  bytes_read ek em eo = rw (ek, em, eo) (length-file_of ∙ ap (λ x. 2 + bus_count t + 2 + 4 * lines t + x) length-weight_section)
+  bytes_read ek em eo =
+      rw (ek, em, eo) (length-file_of ∙ ap (λ x. 2 + bus_count t + 2 + 4 * lines t + x) (section_length t (as_one_way t w) (lines t) (pair_records n (row t)) length-pair_records))
 
   pub weight_section-le : length (weight_section (weights t)) ≤ 2 + 2 * bus_count t
-  weight_section-le = split (all_ones (weights t)) (λ e. omega (arith, rw e at length-weight_section)) (λ e. omega (arith, rw e at length-weight_section))
+  weight_section-le = section_le t (as_one_way t w) (lines t) (pair_records n (row t)) length-pair_records

@@ -30,6 +30,10 @@ all_ones w = all_below (length w) (λ i. eqb (at w i) 1)
 unfoldable pub weight_section : List ℕ → List ℕ
 weight_section w = cond (all_ones w) [] (word (length w) ++ words w)
 
+-- whichever way lines run: the file of a table's buses and of the m records r
+abbrev pub file_with : List ℕ → ℕ → List ℕ → List ℕ
+file_with t m r = word (bus_count t) ++ (needs t ++ (word m ++ (r ++ weight_section (weights t))))
+
 -- the file of the network that a slice holds
 unfoldable pub file_of : List ℕ → List ℕ
-file_of t = word (bus_count t) ++ (needs t ++ (word (lines t) ++ (pair_records (bus_count t) (row t) ++ weight_section (weights t))))
+file_of t = file_with t (lines t) (pair_records (bus_count t) (row t))

@@ -1,1 +1,2 @@
 pub mod FileWriting
+pub mod FrontLaws

@@ -1,12 +1,12 @@
 // The file writer: the network file of a line table.
-ghost use Rattle.std.specs.Prelude.{◌≡◌, ◌+◌, ◌≤◌, ◌<◌, length};
+ghost use Rattle.std.specs.Prelude.{cond, ◌≡◌, ◌+◌, ◌*◌, ◌≤◌, ◌<◌, length};
 ghost use Rattle.lists.specs.Lists.{WrittenAt};
 ghost use Rattle.refusals.specs.WrittenAnswer.{outcome_of_written};
-ghost use Rattle.table_spec.specs.Layout.{bus_count, weights, row};
-ghost use Rattle.table_spec.specs.Holds.{NeedsInRange, Holds};
-ghost use Rattle.write_spec.specs.FileOf.{word, words, pair_records, all_ones, weight_section, file_of};
+ghost use Rattle.table_spec.specs.Layout.{bus_count, weights, row, lines};
+ghost use Rattle.table_spec.specs.Holds.{NeedsInRange, Holds, HoldsOneWay};
+ghost use Rattle.write_spec.specs.FileOf.{word, words, record_of, pair_records, all_ones, weight_section, file_of};
 ghost use Rattle.write_spec.specs.WriteOutcome.{write_outcome, bytes_after};
-ghost use Rattle.writer.specs.FileFront.{front_of};
+ghost use Rattle.writer.specs.FileFront.{head_of, front_with};
 ghost use Rattle.writer.specs.RowRecords.{record_above, row_records};
 
 pub use network::Refusal;
@@ -38,6 +38,15 @@ fn write_needs(needs: &[u16], out: &mut [u8], at: usize) -> usize
     at + needs.len()
 }
 
+// Writes a record, and gives the place behind it.
+pub fn write_record(first: usize, second: usize, out: &mut [u8], at: usize) -> usize
+    requires { (first < 65536) × (second < 65536) × (at + length (record_of first second) ≤ length out.old) }
+    ensures { WrittenAt (record_of first second) at out.old result out.new }
+{
+    let middle = write_word(first, out, at);
+    write_word(second, out, middle)
+}
+
 // Writes the record of a bus with a neighbour that is above it, and gives the place behind it; of another neighbour it writes none.
 fn write_pair(bus: usize, neighbour: usize, out: &mut [u8], at: usize) -> usize
     requires { (neighbour < 65536) × (at + length (record_above bus neighbour) ≤ length out.old) }
@@ -46,8 +55,7 @@ fn write_pair(bus: usize, neighbour: usize, out: &mut [u8], at: usize) -> usize
     if neighbour <= bus {
         return at;
     }
-    let middle = write_word(bus, out, at);
-    write_word(neighbour, out, middle)
+    write_record(bus, neighbour, out, at)
 }
 
 // Writes the records of a bus with those of its neighbours that are above it, and gives the place behind them.
@@ -79,19 +87,27 @@ fn write_pairs(table: &[u16], out: &mut [u8], at: usize) -> usize
     end
 }
 
-// Writes the file of a network up to its weights at the front of bytes that are enough, and gives the place behind it.
-fn write_front(table: &[u16], out: &mut [u8]) -> usize
-    requires { Holds table.now × (length (front_of table.now) ≤ length out.old) }
-    ensures { WrittenAt (front_of table.now) 0 out.old result out.new }
+// Writes what stands before the records of a file, whichever way lines run, at the front of bytes that are enough, and gives the place behind it.
+pub fn write_head(table: &[u16], lines: usize, out: &mut [u8]) -> usize
+    requires { HoldsOneWay table.now × (lines < 65536) × (length (head_of table.now lines) ≤ length out.old) }
+    ensures { WrittenAt (head_of table.now lines) 0 out.old result out.new }
 {
     let needs_at = write_word(bus_count(table), out, 0);
     let lines_at = write_needs(needs(table), out, needs_at);
-    let pairs_at = write_word(lines(table), out, lines_at);
+    write_word(lines, out, lines_at)
+}
+
+// Writes the file of a network up to its weights at the front of bytes that are enough, and gives the place behind it.
+fn write_front(table: &[u16], out: &mut [u8]) -> usize
+    requires { Holds table.now × (length (front_with table.now (lines table.now) (pair_records (bus_count table.now) (row table.now))) ≤ length out.old) }
+    ensures { WrittenAt (front_with table.now (lines table.now) (pair_records (bus_count table.now) (row table.now))) 0 out.old result out.new }
+{
+    let pairs_at = write_head(table, lines(table), out);
     write_pairs(table, out, pairs_at)
 }
 
 // Whether all weights are 1.
-fn all_ones(weights: &[u16]) -> bool
+pub fn all_ones(weights: &[u16]) -> bool
     ensures { result ≡ all_ones weights.now }
 {
     let mut bus = 0;
@@ -119,7 +135,7 @@ fn write_weights(weights: &[u16], out: &mut [u8], at: usize) -> usize
 }
 
 // Writes the section of weights, unless all are 1, and gives the place behind it.
-fn write_section(weights: &[u16], ones: bool, out: &mut [u8], at: usize) -> usize
+pub fn write_section(weights: &[u16], ones: bool, out: &mut [u8], at: usize) -> usize
     requires { (ones ≡ all_ones weights.now) × (length weights.now < 65536) × (at + length (weight_section weights.now) ≤ length out.old) }
     ensures { WrittenAt (weight_section weights.now) at out.old result out.new }
 {
@@ -130,13 +146,12 @@ fn write_section(weights: &[u16], ones: bool, out: &mut [u8], at: usize) -> usiz
     write_weights(weights, out, weights_at)
 }
 
-// How many bytes the file of a network has; `ones` says whether all weights are 1.
-fn byte_count(table: &[u16], ones: bool) -> usize
-    requires { Holds table.now × (ones ≡ all_ones (weights table.now)) }
-    ensures { result ≡ length (file_of table.now) }
+// How many bytes the file of n buses and so many lines has; `ones` says whether all weights are 1.
+pub fn byte_count(n: usize, lines: usize, ones: bool) -> usize
+    requires { (n < 65536) × (lines < 65536) }
+    ensures { result ≡ 2 + n + 2 + 4 * lines + cond ones 0 (2 + 2 * n) }
 {
-    let n = bus_count(table);
-    let front = 2 + n + 2 + 4 * lines(table);
+    let front = 2 + n + 2 + 4 * lines;
     if ones {
         return front;
     }
@@ -161,7 +176,7 @@ pub fn write(table: &[u16], out: &mut [u8]) -> Written
         return Written::Refused(Refusal::NoNetwork);
     }
     let ones = all_ones(weights(table));
-    if out.len() < byte_count(table, ones) {
+    if out.len() < byte_count(bus_count(table), lines(table), ones) {
         return Written::Refused(Refusal::BytesTooShort);
     }
     let end = write_file(table, ones, out);

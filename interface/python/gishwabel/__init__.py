@@ -2,8 +2,8 @@
 
 For every bus of a power network, its fair part (Shapley value) of what recorders at all buses
 together can see; every number comes from the proved library. :class:`Network` has the planners' own
-names for buses, :func:`load` reads one from a network file, and :mod:`gishwabel.calls` has a
-function for each call of the library.
+names for buses, :func:`load` reads one from a network file, and :mod:`gishwabel.calls` and, for
+one-way lines, :mod:`gishwabel.one_way` have a function for each call of the library.
 
 >>> import gishwabel
 >>> lines = [("Nord", "Mitte"), ("Süd", "Mitte")]
@@ -17,6 +17,7 @@ buses 3 lines 2 over 6
 2 1 1 5 5/6
 """
 
+from gishwabel import one_way
 from gishwabel.build import BuildError
 from gishwabel.calls import (
     Counts,
@@ -56,6 +57,7 @@ __all__ = [
     "max_entries",
     "max_file",
     "max_text",
+    "one_way",
     "outage",
     "read",
     "row",

@@ -10,6 +10,9 @@ A call that is refused raises :class:`Refused` and has changed nothing. The rule
 which the library does not test, are kept here: what is lent wrongly is a ``TypeError`` or a
 ``ValueError``. No other thread of Python runs during a call.
 
+The functions here are for two-way lines, and those of :mod:`gishwabel.one_way` for one-way lines;
+:class:`Kind` says once what both do.
+
 ``docs/FORMAT.md`` explains file, table, shares, outage study and sheet.
 """
 
@@ -18,7 +21,7 @@ from __future__ import annotations
 import ctypes
 import functools
 import operator
-from typing import TYPE_CHECKING, Any, NamedTuple
+from typing import TYPE_CHECKING, Any, NamedTuple, Optional
 
 from gishwabel import build
 
@@ -60,10 +63,10 @@ class Refused(ValueError):
     1 the file ends inside a count or a section
     """
 
-    def __init__(self, number: int) -> None:
+    def __init__(self, number: int, words: Optional[str] = None) -> None:
         super().__init__(number)
         self.number = number
-        self.words = WORDS[number]
+        self.words = WORDS[number] if words is None else words
 
     def __str__(self) -> str:
         return f"refused {self.number}: {self.words}"
@@ -91,19 +94,24 @@ _CHANGES = (ctypes.c_int64, "ql")
 
 _POINTER, _SIZE = ctypes.c_void_p, ctypes.c_size_t
 _LENT = [_POINTER, _SIZE]
-_ARGUMENTS: dict[str, list[Any]] = {
+_OF_BOTH_KINDS: dict[str, list[Any]] = {
     "read": [*_LENT, *_LENT, _POINTER, _POINTER],
     "write": [*_LENT, *_LENT, _POINTER],
     "degree": [*_LENT, _SIZE, _POINTER],
     "row": [*_LENT, _SIZE, _POINTER, _POINTER],
     "shares": [*_LENT, *_LENT, _POINTER],
     "share": [*_LENT, _SIZE, _POINTER, _POINTER],
-    "outage": [*_LENT, _SIZE, *_LENT, _POINTER],
-    "cancel": [ctypes.c_uint64, ctypes.c_uint64, _POINTER, _POINTER],
     "line": [*_LENT, _SIZE, *_LENT, _POINTER],
     "whole": [*_LENT, *_LENT, _POINTER],
 }
+_ARGUMENTS: dict[str, list[Any]] = {
+    **_OF_BOTH_KINDS,
+    **{f"one_way_{name}": arguments for name, arguments in _OF_BOTH_KINDS.items()},
+    "outage": [*_LENT, _SIZE, *_LENT, _POINTER],
+    "cancel": [ctypes.c_uint64, ctypes.c_uint64, _POINTER, _POINTER],
+}
 _SIZES = ["max_buses", "max_entries", "max_bytes", "max_file", "max_text"]
+_SIZES += ["one_way_max_entries", "one_way_max_bytes"]
 
 
 @functools.lru_cache(maxsize=None)
@@ -120,18 +128,11 @@ def _library() -> Any:
     return found
 
 
-def _call(name: str, *arguments: Any) -> None:
-    """Makes a call, and raises its refusal."""
-    status = getattr(_library(), f"share_sheet_{name}")(*arguments)
-    if status != 0:
-        raise Refused(status)
-
-
 def _lent(
-    called: str, buffer: ReadableBuffer, kind: tuple[Any, str], written: bool = False
+    called: str, buffer: ReadableBuffer, numbers: tuple[Any, str], written: bool = False
 ) -> tuple[Any, int]:
     """What a call takes for a buffer: something that C takes for its address, and its length."""
-    number, formats = kind
+    number, formats = numbers
     view = memoryview(buffer)
     fits = view.format.lstrip("@=<") in formats and view.itemsize == ctypes.sizeof(number)
     if not fits or view.ndim != 1 or not view.c_contiguous:
@@ -171,16 +172,99 @@ def _index(number: int) -> int:
     return number if 0 <= number <= most else most
 
 
-def _write_bytes(
-    name: str, table: ReadableBuffer, numbers: list[int], written: WriteableBuffer, called: str
-) -> int:
-    """Makes a call that takes a table, perhaps a number, and bytes to write to; gives how many."""
-    entries, length = _lent("table", table, _TABLE)
-    data, room = _lent(called, written, _BYTES, written=True)
-    _apart(entries, data)
-    count = _SIZE()
-    _call(name, entries, length, *numbers, data, room, ctypes.byref(count))
-    return count.value
+class Kind:
+    """The calls for networks of one kind: what their names begin with, and their refusals in words.
+
+    Each is explained with the function of its name here, and in :mod:`gishwabel.one_way`.
+    """
+
+    def __init__(self, begin: str, words: dict[int, str]) -> None:
+        self._begin, self._words = begin, words
+
+    def call(self, name: str, *arguments: Any) -> None:
+        """Makes a call, and raises its refusal."""
+        status = getattr(_library(), self._begin + name)(*arguments)
+        if status != 0:
+            raise Refused(status, self._words[status])
+
+    def _write_bytes(
+        self, name: str, table: ReadableBuffer, numbers: list[int], written: WriteableBuffer,
+        called: str,
+    ) -> int:
+        """Makes a call that takes a table, perhaps a number, and bytes to write; gives how many."""
+        entries, length = _lent("table", table, _TABLE)
+        data, room = _lent(called, written, _BYTES, written=True)
+        _apart(entries, data)
+        count = _SIZE()
+        self.call(name, entries, length, *numbers, data, room, ctypes.byref(count))
+        return count.value
+
+    def read(self, file: ReadableBuffer, table: WriteableBuffer) -> Counts:
+        """Reads a network file into a table."""
+        data, length = _lent("file", file, _BYTES)
+        entries, room = _lent("table", table, _TABLE, written=True)
+        _apart(data, entries)
+        buses, lines = _SIZE(), _SIZE()
+        self.call("read", data, length, entries, room, ctypes.byref(buses), ctypes.byref(lines))
+        return Counts(buses.value, lines.value)
+
+    def write(self, table: ReadableBuffer, file: WriteableBuffer) -> int:
+        """Writes the network file of a table."""
+        return self._write_bytes("write", table, [], file, "file")
+
+    def degree(self, table: ReadableBuffer, bus: int) -> int:
+        """Gives the entries of a bus's row."""
+        bus = _index(bus)  # before anything is lent, since it may run code of the caller's
+        entries, length = _lent("table", table, _TABLE)
+        found = _SIZE()
+        self.call("degree", entries, length, bus, ctypes.byref(found))
+        return found.value
+
+    def row(self, table: ReadableBuffer, bus: int) -> memoryview:
+        """Gives the row of a bus, a part of the table."""
+        bus = _index(bus)
+        entries, length = _lent("table", table, _TABLE)
+        start, count = _SIZE(), _SIZE()
+        self.call("row", entries, length, bus, ctypes.byref(start), ctypes.byref(count))
+        numbers = memoryview(table).cast("B").cast("H").toreadonly()
+        return numbers[start.value : start.value + count.value]
+
+    def shares(self, table: ReadableBuffer, numerators: WriteableBuffer) -> int:
+        """Stores the numerators of all buses, and gives the denominator."""
+        entries, length = _lent("table", table, _TABLE)
+        stored, room = _lent("numerators", numerators, _NUMERATORS, written=True)
+        _apart(entries, stored)
+        over = ctypes.c_uint64()
+        self.call("shares", entries, length, stored, room, ctypes.byref(over))
+        return over.value
+
+    def share(self, table: ReadableBuffer, bus: int) -> Ratio:
+        """Gives the numerator of one bus, and the denominator."""
+        bus = _index(bus)
+        entries, length = _lent("table", table, _TABLE)
+        numerator, over = ctypes.c_uint64(), ctypes.c_uint64()
+        self.call("share", entries, length, bus, ctypes.byref(numerator), ctypes.byref(over))
+        return Ratio(numerator.value, over.value)
+
+    def sheet_line(self, table: ReadableBuffer, line: int, text: WriteableBuffer) -> int:
+        """Writes one line of the sheet."""
+        return self._write_bytes("line", table, [_index(line)], text, "text")
+
+    def whole_sheet(self, table: ReadableBuffer, text: WriteableBuffer) -> int:
+        """Writes the whole sheet."""
+        return self._write_bytes("whole", table, [], text, "text")
+
+    def max_entries(self) -> int:
+        """The entries of the largest table."""
+        return int(getattr(_library(), self._begin + "max_entries")())
+
+    def max_bytes(self) -> int:
+        """The bytes of the largest network file."""
+        return int(getattr(_library(), self._begin + "max_bytes")())
+
+
+TWO_WAY = Kind("share_sheet_", WORDS)
+"""The calls for networks of two-way lines, which the functions below make."""
 
 
 def read(file: ReadableBuffer, table: WriteableBuffer) -> Counts:
@@ -197,12 +281,7 @@ def read(file: ReadableBuffer, table: WriteableBuffer) -> Counts:
     >>> table.tolist()  # n, the needs, the weights, the row starts, and the rows
     [3, 1, 1, 1, 1, 1, 1, 0, 1, 3, 4, 1, 0, 2, 1]
     """
-    data, length = _lent("file", file, _BYTES)
-    entries, room = _lent("table", table, _TABLE, written=True)
-    _apart(data, entries)
-    buses, lines = _SIZE(), _SIZE()
-    _call("read", data, length, entries, room, ctypes.byref(buses), ctypes.byref(lines))
-    return Counts(buses.value, lines.value)
+    return TWO_WAY.read(file, table)
 
 
 def write(table: ReadableBuffer, file: WriteableBuffer) -> int:
@@ -219,7 +298,7 @@ def write(table: ReadableBuffer, file: WriteableBuffer) -> int:
     >>> list(file)
     [3, 0, 1, 1, 1, 2, 0, 0, 0, 1, 0, 1, 0, 2, 0, 0]
     """
-    return _write_bytes("write", table, [], file, "file")
+    return TWO_WAY.write(table, file)
 
 
 def degree(table: ReadableBuffer, bus: int) -> int:
@@ -229,11 +308,7 @@ def degree(table: ReadableBuffer, bus: int) -> int:
     >>> degree(array("H", [3, 1, 1, 1, 1, 1, 1, 0, 1, 3, 4, 1, 0, 2, 1]), 1)
     2
     """
-    bus = _index(bus)  # before anything is lent, since it may run code of the caller's
-    entries, length = _lent("table", table, _TABLE)
-    found = _SIZE()
-    _call("degree", entries, length, bus, ctypes.byref(found))
-    return found.value
+    return TWO_WAY.degree(table, bus)
 
 
 def row(table: ReadableBuffer, bus: int) -> memoryview:
@@ -245,12 +320,7 @@ def row(table: ReadableBuffer, bus: int) -> memoryview:
     >>> row(array("H", [3, 1, 1, 1, 1, 1, 1, 0, 1, 3, 4, 1, 0, 2, 1]), 1).tolist()
     [0, 2]
     """
-    bus = _index(bus)
-    entries, length = _lent("table", table, _TABLE)
-    start, count = _SIZE(), _SIZE()
-    _call("row", entries, length, bus, ctypes.byref(start), ctypes.byref(count))
-    numbers = memoryview(table).cast("B").cast("H").toreadonly()
-    return numbers[start.value : start.value + count.value]
+    return TWO_WAY.row(table, bus)
 
 
 def shares(table: ReadableBuffer, numerators: WriteableBuffer) -> int:
@@ -266,12 +336,7 @@ def shares(table: ReadableBuffer, numerators: WriteableBuffer) -> int:
     >>> numerators.tolist()
     [5, 8, 5, 0]
     """
-    entries, length = _lent("table", table, _TABLE)
-    stored, room = _lent("numerators", numerators, _NUMERATORS, written=True)
-    _apart(entries, stored)
-    over = ctypes.c_uint64()
-    _call("shares", entries, length, stored, room, ctypes.byref(over))
-    return over.value
+    return TWO_WAY.shares(table, numerators)
 
 
 def share(table: ReadableBuffer, bus: int) -> Ratio:
@@ -283,11 +348,7 @@ def share(table: ReadableBuffer, bus: int) -> Ratio:
     >>> share(array("H", [3, 1, 1, 1, 1, 1, 1, 0, 1, 3, 4, 1, 0, 2, 1]), 1)
     Ratio(numerator=8, denominator=6)
     """
-    bus = _index(bus)
-    entries, length = _lent("table", table, _TABLE)
-    numerator, over = ctypes.c_uint64(), ctypes.c_uint64()
-    _call("share", entries, length, bus, ctypes.byref(numerator), ctypes.byref(over))
-    return Ratio(numerator.value, over.value)
+    return TWO_WAY.share(table, bus)
 
 
 def outage(table: ReadableBuffer, line: int, changes: WriteableBuffer) -> int:
@@ -310,7 +371,7 @@ def outage(table: ReadableBuffer, line: int, changes: WriteableBuffer) -> int:
     stored, room = _lent("changes", changes, _CHANGES, written=True)
     _apart(entries, stored)
     over = ctypes.c_uint64()
-    _call("outage", entries, length, line, stored, room, ctypes.byref(over))
+    TWO_WAY.call("outage", entries, length, line, stored, room, ctypes.byref(over))
     return over.value
 
 
@@ -326,7 +387,7 @@ def cancel(numerator: int, denominator: int) -> Ratio:
         if not 0 <= number < 2**64:
             raise OverflowError(f"{number} does not fit 64 bits without a sign")
     top, bottom = ctypes.c_uint64(), ctypes.c_uint64()
-    _call("cancel", numerator, denominator, ctypes.byref(top), ctypes.byref(bottom))
+    TWO_WAY.call("cancel", numerator, denominator, ctypes.byref(top), ctypes.byref(bottom))
     return Ratio(top.value, bottom.value)
 
 
@@ -342,7 +403,7 @@ def sheet_line(table: ReadableBuffer, line: int, text: WriteableBuffer) -> int:
     >>> text[:length]
     bytearray(b'1 1 2 8 4/3\\n')
     """
-    return _write_bytes("line", table, [_index(line)], text, "text")
+    return TWO_WAY.sheet_line(table, line, text)
 
 
 def whole_sheet(table: ReadableBuffer, text: WriteableBuffer) -> int:
@@ -357,7 +418,7 @@ def whole_sheet(table: ReadableBuffer, text: WriteableBuffer) -> int:
     >>> text[:length]
     bytearray(b'buses 1 lines 0 over 1\\n0 1 0 1 1/1\\n')
     """
-    return _write_bytes("whole", table, [], text, "text")
+    return TWO_WAY.whole_sheet(table, text)
 
 
 def max_buses() -> int:
@@ -375,7 +436,7 @@ def max_entries() -> int:
     >>> max_entries()
     13314
     """
-    return int(_library().share_sheet_max_entries())
+    return TWO_WAY.max_entries()
 
 
 def max_bytes() -> int:
@@ -384,7 +445,7 @@ def max_bytes() -> int:
     >>> max_bytes()
     25094
     """
-    return int(_library().share_sheet_max_bytes())
+    return TWO_WAY.max_bytes()
 
 
 def max_file() -> int:

@@ -36,19 +36,26 @@ def common_denominator(network: Network) -> int:
 def terms(network: Network, bus: int) -> list[Term]:
     """The terms that add up to the share of a bus: its own, then one for each neighbour.
 
+    If lines are one-way, its neighbours are the buses that it leads into, and the degree of a bus
+    is the number of those that lead into it.
+
     >>> for term in terms(Network.of("ABC", ["AB", "BC"]), 1):
     ...     print(term.bus, term.formula, term.value)
     1 1/(2+1) 1/3
     0 (1+1-1)/(1*(1+1)) 1/2
     2 (1+1-1)/(1*(1+1)) 1/2
+    >>> for term in terms(Network.of("ABC", ["AB", "BC"], one_way=True), 1):
+    ...     print(term.bus, term.formula, term.value)
+    1 1/(1+1) 1/2
+    2 (1+1-1)/(1*(1+1)) 1/2
     """
     return [_term(network, bus, own=True)] + [
-        _term(network, other, own=False) for other in network.rows[bus]
+        _term(network, other, own=False) for other in network.leads_into[bus]
     ]
 
 
 def _term(network: Network, bus: int, own: bool) -> Term:
-    """The term of a bus: its own, or what it gives to each of its neighbours."""
+    """The term of a bus: its own, or what it gives to each bus that leads into it."""
     k, d, weight = network.needs[bus], len(network.rows[bus]), network.weights[bus]
     if k > d:
         value, formula = Fraction(int(own)), f"{int(own)}"

@@ -16,8 +16,8 @@ from collections.abc import Sequence
 from pathlib import Path
 from typing import Union
 
-from gishwabel import build, calls
-from gishwabel.network import Network
+from gishwabel import build
+from gishwabel.network import Network, kind
 from gishwabel.texts import MOST_BYTES, Fault, TextError, clean_label, decode, read_table
 
 
@@ -41,14 +41,16 @@ def beside(network_file: Union[str, Path]) -> Path:
     return with_ending(network_file, ".labels")
 
 
-def load(network_file: Union[str, Path]) -> Network:
+def load(network_file: Union[str, Path], *, one_way: bool = False) -> Network:
     """Reads a network file, with its labels if their table stands beside it.
+
+    A file does not say whether its lines are one-way; ``one_way`` does.
 
     >>> load(build.ROOT / "examples" / "ieee14.net").labels[:3]
     ['1', '2', '3']
     """
     with open(network_file, "rb") as file:
-        network = Network(file.read(calls.max_bytes() + 1))
+        network = Network(file.read(kind(one_way).max_bytes() + 1), one_way=one_way)
     if os.path.exists(beside(network_file)):
         attach(network, beside(network_file))
     return network

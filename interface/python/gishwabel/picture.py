@@ -64,8 +64,9 @@ def draw(
     """Gives the picture of a network and its shares as the text of an SVG file.
 
     Bus ``b`` has the label ``names[b]`` and the share ``numerators[b] / over``. Each of ``pairs``
-    is a line between two buses. For an outage, ``out`` is the place in ``pairs`` of the line that
-    is out and ``changes[b] / over`` is what bus ``b`` gains or loses by it; give both or neither.
+    is a line between two buses; which way it leads is not drawn, and each two buses have one at
+    most. For an outage, ``out`` is the place in ``pairs`` of the line that is out and
+    ``changes[b] / over`` is what bus ``b`` gains or loses by it; give both or neither.
     ``progress`` is called with the rounds of the layout that are done and with their number.
 
     >>> from xml.etree import ElementTree
@@ -75,6 +76,8 @@ def draw(
     """
     if (out is None) != (changes is None):
         raise ValueError("give both the line that is out and the changes, or neither")
+    if len({frozenset(pair) for pair in pairs}) < len(pairs):
+        raise ValueError("two lines join the same buses; pictures are for two-way lines alone")
     shares = [Fraction(numerator, over) for numerator in numerators]
     moves = [Fraction(change, over) for change in changes or []]
     names = [_clean(name) for name in names]

@@ -7,6 +7,9 @@
 //! [`outage`] tells what the loss of a line changes. `docs/FORMAT.md` of the repository explains
 //! file, table, shares, outage study and sheet.
 //!
+//! Lines run both ways here: a recorder at either bus of a line judges the other. [`one_way`] has
+//! the same calls for lines of which only one bus judges the other.
+//!
 //! Nothing is allocated here, and nothing is kept between calls: callers lend the slices, and
 //! [`limits`] gives lengths that are always enough. A refused call gives a [`Refusal`] and
 //! changes nothing. Entries behind a table never matter.
@@ -30,9 +33,12 @@
 #![deny(missing_docs)]
 #![forbid(unsafe_op_in_unsafe_fn)]
 
+mod calls;
+pub mod one_way;
 mod raw;
 mod refusal;
 
+use calls::TWO_WAY;
 pub use refusal::Refusal;
 use std::fmt;
 
@@ -48,7 +54,8 @@ use std::fmt;
 pub struct Counts {
     /// The number of buses, n. They are numbered from 0 to n - 1.
     pub buses: usize,
-    /// The number of lines, m: of different pairs of buses that are joined.
+    /// The number of lines, m: of different pairs of buses that are joined, or of different records
+    /// of one-way lines.
     pub lines: usize,
 }
 
@@ -115,15 +122,7 @@ pub struct Limits {
 /// # Ok::<(), std::io::Error>(())
 /// ```
 pub fn limits() -> Limits {
-    // SAFETY: these functions take nothing and look at nothing.
-    unsafe {
-        Limits {
-            buses: raw::share_sheet_max_buses(),
-            entries: raw::share_sheet_max_entries(),
-            file_bytes: raw::share_sheet_max_bytes(),
-            text_bytes: raw::share_sheet_max_text(),
-        }
-    }
+    TWO_WAY.limits()
 }
 
 /// Reads a network file: stores its line table at the front of `table`, and gives the counts.
@@ -175,21 +174,7 @@ pub fn limits() -> Limits {
 /// # Ok::<(), Refusal>(())
 /// ```
 pub fn read(file: &[u8], table: &mut [u16]) -> Result<Counts, Refusal> {
-    let mut counts = Counts { buses: 0, lines: 0 };
-    // SAFETY: slices and references are aligned, valid and never null; what is written is lent
-    // by `&mut`, so that nothing else overlaps it.
-    let number = unsafe {
-        raw::share_sheet_read(
-            file.as_ptr(),
-            file.len(),
-            table.as_mut_ptr(),
-            table.len(),
-            &mut counts.buses,
-            &mut counts.lines,
-        )
-    };
-    refusal::accepted(number)?;
-    Ok(counts)
+    TWO_WAY.read(file, table)
 }
 
 /// Writes the network file of a line table at the front of `file`, and gives its bytes.
@@ -231,19 +216,7 @@ pub fn read(file: &[u8], table: &mut [u16]) -> Result<Counts, Refusal> {
 /// # Ok::<(), Refusal>(())
 /// ```
 pub fn write(table: &[u16], file: &mut [u8]) -> Result<usize, Refusal> {
-    let mut bytes = 0;
-    // SAFETY: as in `read`.
-    let number = unsafe {
-        raw::share_sheet_write(
-            table.as_ptr(),
-            table.len(),
-            file.as_mut_ptr(),
-            file.len(),
-            &mut bytes,
-        )
-    };
-    refusal::accepted(number)?;
-    Ok(bytes)
+    TWO_WAY.write(table, file)
 }
 
 /// Gives the number of neighbours of a bus.
@@ -259,11 +232,7 @@ pub fn write(table: &[u16], file: &mut [u8]) -> Result<usize, Refusal> {
 /// assert_eq!(degree(&path[..14], 1), Err(Refusal::NoNetwork));
 /// ```
 pub fn degree(table: &[u16], bus: usize) -> Result<usize, Refusal> {
-    let mut degree = 0;
-    // SAFETY: as in `read`.
-    let number = unsafe { raw::share_sheet_degree(table.as_ptr(), table.len(), bus, &mut degree) };
-    refusal::accepted(number)?;
-    Ok(degree)
+    TWO_WAY.degree(table, bus)
 }
 
 /// Gives the neighbours of a bus in ascending order: a part of `table`.
@@ -281,12 +250,7 @@ pub fn degree(table: &[u16], bus: usize) -> Result<usize, Refusal> {
 /// assert_eq!(row(&path, 3).unwrap_or_default(), &[]);
 /// ```
 pub fn row(table: &[u16], bus: usize) -> Result<&[u16], Refusal> {
-    let (mut start, mut entries) = (0, 0);
-    // SAFETY: as in `read`; `start` and `entries` are two places.
-    let number =
-        unsafe { raw::share_sheet_row(table.as_ptr(), table.len(), bus, &mut start, &mut entries) };
-    refusal::accepted(number)?;
-    Ok(&table[start..start + entries])
+    TWO_WAY.row(table, bus)
 }
 
 /// Stores the numerators of all buses, bus 0 first, and gives the denominator that they are over.
@@ -312,19 +276,7 @@ pub fn row(table: &[u16], bus: usize) -> Result<&[u16], Refusal> {
 /// assert_eq!(numerators.iter().sum::<u64>(), (1 + 5 + 2) * 6);
 /// ```
 pub fn shares(table: &[u16], numerators: &mut [u64]) -> Result<u64, Refusal> {
-    let mut over = 0;
-    // SAFETY: as in `read`.
-    let number = unsafe {
-        raw::share_sheet_shares(
-            table.as_ptr(),
-            table.len(),
-            numerators.as_mut_ptr(),
-            numerators.len(),
-            &mut over,
-        )
-    };
-    refusal::accepted(number)?;
-    Ok(over)
+    TWO_WAY.shares(table, numerators)
 }
 
 /// Gives the share of one bus: its numerator and the denominator, as [`shares`] gives them.
@@ -342,19 +294,7 @@ pub fn shares(table: &[u16], numerators: &mut [u64]) -> Result<u64, Refusal> {
 /// # Ok::<(), Refusal>(())
 /// ```
 pub fn share(table: &[u16], bus: usize) -> Result<Fraction, Refusal> {
-    let mut share = Fraction { numerator: 0, denominator: 0 };
-    // SAFETY: as in `read`; the fraction's two numbers are two places.
-    let number = unsafe {
-        raw::share_sheet_share(
-            table.as_ptr(),
-            table.len(),
-            bus,
-            &mut share.numerator,
-            &mut share.denominator,
-        )
-    };
-    refusal::accepted(number)?;
-    Ok(share)
+    TWO_WAY.share(table, bus)
 }
 
 /// Stores what the loss of a line does to the share of each bus, bus 0 first, and gives the
@@ -387,7 +327,8 @@ pub fn share(table: &[u16], bus: usize) -> Result<Fraction, Refusal> {
 /// ```
 pub fn outage(table: &[u16], line: usize, changes: &mut [i64]) -> Result<u64, Refusal> {
     let mut over = 0;
-    // SAFETY: as in `read`.
+    // SAFETY: slices and references are aligned, valid and never null; what is written is lent
+    // by `&mut`, so that nothing else overlaps it.
     let number = unsafe {
         raw::share_sheet_outage(
             table.as_ptr(),
@@ -447,20 +388,7 @@ pub fn cancel(numerator: u64, denominator: u64) -> Result<Fraction, Refusal> {
 /// assert_eq!(sheet_line(&path, 0, &mut text[..22]), Err(Refusal::TextTooShort));
 /// ```
 pub fn sheet_line(table: &[u16], line: usize, text: &mut [u8]) -> Result<usize, Refusal> {
-    let mut bytes = 0;
-    // SAFETY: as in `read`.
-    let number = unsafe {
-        raw::share_sheet_line(
-            table.as_ptr(),
-            table.len(),
-            line,
-            text.as_mut_ptr(),
-            text.len(),
-            &mut bytes,
-        )
-    };
-    refusal::accepted(number)?;
-    Ok(bytes)
+    TWO_WAY.sheet_line(table, line, text)
 }
 
 /// Writes the whole sheet at the front of `text`, lines 0 to n, and gives its bytes.
@@ -479,17 +407,5 @@ pub fn sheet_line(table: &[u16], line: usize, text: &mut [u8]) -> Result<usize, 
 /// assert_eq!(whole_sheet(&alone, &mut text[..34]), Err(Refusal::TextTooShort));
 /// ```
 pub fn whole_sheet(table: &[u16], text: &mut [u8]) -> Result<usize, Refusal> {
-    let mut bytes = 0;
-    // SAFETY: as in `read`.
-    let number = unsafe {
-        raw::share_sheet_whole(
-            table.as_ptr(),
-            table.len(),
-            text.as_mut_ptr(),
-            text.len(),
-            &mut bytes,
-        )
-    };
-    refusal::accepted(number)?;
-    Ok(bytes)
+    TWO_WAY.whole_sheet(table, text)
 }

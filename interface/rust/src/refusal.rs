@@ -25,13 +25,14 @@ pub enum Refusal {
     BusCount,
     /// A need is 0 or above the limit.
     Need,
-    /// The line count is above the limit.
+    /// The line count is above the limit: 5,888 records, or 11,776 of one-way lines.
     LineCount,
     /// Bytes follow the last weight.
     FileTooLong,
     /// A record names a bus that the network does not have, or one bus twice.
     LineEnds,
-    /// A bus has more different neighbours than the limit.
+    /// The degree of a bus is above the limit: it has more different neighbours, or, of one-way
+    /// lines, more different buses lead into it.
     DegreeTooHigh,
     /// The denominator is 0.
     NoDenominator = 9,
@@ -45,11 +46,12 @@ pub enum Refusal {
     NoSuchBus,
     /// Too few bytes are lent for the text.
     TextTooShort,
-    /// The first bus of a record is above its second, or a record is below the one before it.
+    /// A record is below the one before it, or, of two-way lines, names its higher bus first.
     OutOfOrder,
     /// Too few bytes are lent for the file.
     BytesTooShort,
-    /// A need is above its bus's degree, and the bus is not one without lines that has need 1.
+    /// A need is above its bus's degree, and is not 1 at a bus of degree 0: one without lines, or, of
+    /// one-way lines, one that none leads into.
     NeedAboveDegree,
     /// The network does not have the line.
     NoSuchLine,
@@ -82,7 +84,7 @@ impl Refusal {
             Refusal::LineEnds => {
                 "a record names a bus that the network does not have, or one bus twice"
             }
-            Refusal::DegreeTooHigh => "a bus has more different neighbours than the limit",
+            Refusal::DegreeTooHigh => "the degree of a bus is above the limit",
             Refusal::NoDenominator => "the denominator is 0",
             Refusal::TableTooShort => "too few entries are lent for the table",
             Refusal::NoNetwork => "the table lent holds no network",
@@ -92,12 +94,12 @@ impl Refusal {
             }
             Refusal::TextTooShort => "too few bytes are lent for the text",
             Refusal::OutOfOrder => {
-                "the first bus of a record is above its second, or a record is below the one \
-                 before it"
+                "a record is below the one before it, or, of two-way lines, names its higher bus \
+                 first"
             }
             Refusal::BytesTooShort => "too few bytes are lent for the file",
             Refusal::NeedAboveDegree => {
-                "a need is above its bus's degree, and is not 1 at a bus without lines"
+                "a need is above its bus's degree, and is not 1 at a bus of degree 0"
             }
             Refusal::NoSuchLine => "the network does not have the line",
             Refusal::WeightCount => "the weight count, behind the records, is not the bus count",

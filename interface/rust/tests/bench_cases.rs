@@ -1,8 +1,8 @@
-//! The bench cases of the scope, starred ones included, and of orders 1 to 7, through the boundary.
+//! The bench cases of the scope, starred ones included, and of orders 1 to 8, through the boundary.
 
 use share_sheet::{
-    cancel, degree, limits, outage, read, row, share, shares, sheet_line, whole_sheet, write,
-    Counts, Fraction, Limits, Refusal,
+    cancel, degree, limits, one_way, outage, read, row, share, shares, sheet_line, whole_sheet,
+    write, Counts, Fraction, Limits, Refusal,
 };
 
 /// Three buses in a row, each with need 1.
@@ -656,4 +656,204 @@ fn long_lines() {
     let star = table(&weighted(&star(24), &[1000; 24]));
     let line = sheet_line(&star, 1, &mut text).unwrap();
     assert_eq!(text[..line], *b"0 1 23 61796724990000 34625/3\n");
+}
+
+/// One-way lines: bus 0 leads into buses 1 and 2, and bus 1 into bus 2. Each has need 1.
+const FEEDER_LINES: [(u16, u16); 3] = [(0, 1), (0, 2), (1, 2)];
+const FEEDER_TABLE: [u16; 14] = [3, 1, 1, 1, 1, 1, 1, 0, 0, 1, 3, 0, 0, 1];
+
+/// The table of a file of one-way lines that is accepted, with no entry behind it.
+fn one_way_table(file: &[u8]) -> Vec<u16> {
+    let mut table = vec![0; one_way::limits().entries];
+    let Counts { buses, lines } = one_way::read(file, &mut table).unwrap();
+    table.truncate(3 * buses + 2 + lines);
+    table
+}
+
+/// Tests that a file of one-way lines is refused, and that what the slice held stays.
+fn one_way_refuses(file: &[u8], number: u8) {
+    let mut marks = vec![0xA5A5; one_way::limits().entries];
+    assert_eq!(one_way::read(file, &mut marks).map_err(Refusal::number), Err(number));
+    assert!(marks.iter().all(|&mark| mark == 0xA5A5));
+    assert_eq!(one_way::read(file, &mut []).map_err(Refusal::number), Err(number));
+}
+
+/// Tests that the shares of a file of one-way lines are `numerators` over `over`: of all buses in
+/// one call, and bus by bus. Entries behind the numerators stay.
+fn one_way_scores(file: &[u8], over: u64, numerators: &[u64]) {
+    let table = one_way_table(file);
+    let mut lent = vec![7; numerators.len() + 2];
+    let short = numerators.len() - 1;
+    let refused = one_way::shares(&table, &mut lent[..short]);
+    assert_eq!(refused, Err(Refusal::NumeratorsTooShort));
+    assert!(lent.iter().all(|&entry| entry == 7));
+    assert_eq!(one_way::shares(&table, &mut lent), Ok(over));
+    assert_eq!(lent, [numerators, &[7, 7]].concat());
+    for (bus, &numerator) in numerators.iter().enumerate() {
+        assert_eq!(one_way::share(&table, bus), Ok(Fraction { numerator, denominator: over }));
+    }
+    assert_eq!(one_way::share(&table, numerators.len()), Err(Refusal::NoSuchBus));
+}
+
+/// Tests that a table of one-way lines is written as `file`, into just as many bytes; with one byte
+/// less it is refused, and the bytes stay.
+fn one_way_writes(table: &[u16], file: &[u8]) {
+    let mut lent = vec![7; file.len()];
+    let short = file.len() - 1;
+    assert_eq!(one_way::write(table, &mut lent[..short]), Err(Refusal::BytesTooShort));
+    assert!(lent.iter().all(|&byte| byte == 7));
+    assert_eq!(one_way::write(table, &mut lent), Ok(file.len()));
+    assert_eq!(lent, file);
+}
+
+#[test]
+fn one_way_fan() {
+    let feeder = file(&[1; 3], &FEEDER_LINES);
+    let mut lent = [7; 16];
+    assert_eq!(one_way::read(&feeder, &mut lent[..13]), Err(Refusal::TableTooShort));
+    assert_eq!(lent, [7; 16]);
+    assert_eq!(one_way::read(&feeder, &mut lent[..14]), Ok(Counts { buses: 3, lines: 3 }));
+    assert_eq!(lent[..14], FEEDER_TABLE);
+    assert_eq!(lent[14..], [7, 7]);
+    one_way_scores(&feeder, 6, &[11, 5, 2]);
+    one_way_writes(&FEEDER_TABLE, &feeder);
+    // the terms that bus 0 gets have the weights of buses 1 and 2, into which it leads
+    one_way_scores(&weighted(&feeder, &[1, 5, 2]), 6, &[6 + 15 + 4, 15 + 4, 4]);
+    one_way_writes(&one_way_table(&weighted(&feeder, &[1, 5, 2])), &weighted(&feeder, &[1, 5, 2]));
+    // bus 2 needs both: it has 4/6 of its own, and gives 1/6 to each
+    one_way_scores(&file(&[1, 1, 2], &FEEDER_LINES), 6, &[6 + 3 + 1, 3 + 1, 4]);
+}
+
+#[test]
+fn one_way_sheet() {
+    let sheet = "buses 3 lines 3 over 6\n0 1 0 11 11/6\n1 1 1 5 5/6\n2 1 2 2 1/3\n";
+    let mut text = [7; 70];
+    for (line, wanted) in sheet.split_inclusive('\n').enumerate() {
+        assert_eq!(one_way::sheet_line(&FEEDER_TABLE, line, &mut text), Ok(wanted.len()));
+        assert!(text.starts_with(wanted.as_bytes()));
+    }
+    assert_eq!(one_way::sheet_line(&FEEDER_TABLE, 4, &mut []), Err(Refusal::NoSuchBus));
+    let bytes = sheet.len();
+    let refused = one_way::whole_sheet(&FEEDER_TABLE, &mut text[..bytes - 1]);
+    assert_eq!(refused, Err(Refusal::TextTooShort));
+    assert_eq!(one_way::whole_sheet(&FEEDER_TABLE, &mut text), Ok(bytes));
+    assert_eq!(&text[..bytes], sheet.as_bytes());
+}
+
+#[test]
+fn one_way_rows() {
+    for (bus, leading_in) in [&[][..], &[0], &[0, 1]].into_iter().enumerate() {
+        assert_eq!(one_way::row(&FEEDER_TABLE, bus), Ok(leading_in));
+        assert_eq!(one_way::degree(&FEEDER_TABLE, bus), Ok(leading_in.len()));
+    }
+    for bus in [3, 65536, usize::MAX] {
+        assert_eq!(one_way::row(&FEEDER_TABLE, bus), Err(Refusal::NoSuchBus));
+        assert_eq!(one_way::degree(&FEEDER_TABLE, bus), Err(Refusal::NoSuchBus));
+    }
+    assert_eq!(one_way::degree(&FEEDER_TABLE[..13], 3), Err(Refusal::NoNetwork));
+    // it is no table of two-way lines, but one of these is one of one-way lines
+    assert_eq!(degree(&FEEDER_TABLE, 0), Err(Refusal::NoNetwork));
+    assert_eq!(one_way::row(&PATH_TABLE, 1), Ok(&[0, 2][..]));
+}
+
+/// Either bus may be the higher, and records ascend by first bus, then by second.
+#[test]
+fn one_way_order() {
+    let turned = [(1, 0), (2, 0), (2, 1)];
+    assert_eq!(one_way_table(&file(&[1; 3], &turned))[7..], [0, 2, 3, 3, 1, 2, 2]);
+    one_way_scores(&file(&[1; 3], &turned), 6, &[2, 5, 11]);
+    // by first bus, while the second rises; by second, while the first is equal
+    one_way_refuses(&file(&[1; 3], &[(1, 0), (0, 2)]), 15);
+    one_way_refuses(&file(&[1; 3], &[(2, 1), (0, 2)]), 15);
+    one_way_refuses(&file(&[1; 3], &[(0, 2), (0, 1)]), 15);
+    one_way_refuses(&file(&[1; 3], &[(2, 1), (2, 0)]), 15);
+    // by numbers, and not by their bytes, of which the low one stands in front
+    let high = file(&[1; 512], &[(2, 256), (2, 257), (256, 2), (511, 0), (511, 256)]);
+    one_way_writes(&one_way_table(&high), &high);
+    one_way_refuses(&file(&[1; 512], &[(256, 2), (2, 256)]), 15);
+    one_way_refuses(&file(&[1; 512], &[(2, 256), (2, 1)]), 15);
+    // 6 comes before 15, and 15 before 7
+    one_way_refuses(&file(&[1; 3], &[(0, 2), (0, 1), (1, 3)]), 6);
+    one_way_refuses(&file(&[1; 3], &[(2, 2)]), 6);
+    let crowded: Vec<_> = (1..25).map(|first| (first, 0)).collect();
+    one_way_refuses(&file(&[1; 25], &[&crowded[..], &[(1, 0)]].concat()), 15);
+}
+
+/// Both directions of a pair are two lines; equal records are one, if they stand together.
+#[test]
+fn one_way_lines_of_one_pair() {
+    let both = file(&[1; 2], &[(0, 1), (1, 0)]);
+    assert_eq!(one_way_table(&both), [2, 1, 1, 1, 1, 0, 1, 2, 1, 0]);
+    one_way_scores(&both, 2, &[2, 2]);
+    let one = file(&[1; 2], &[(0, 1)]);
+    one_way_scores(&one, 2, &[3, 1]);
+    let equal = file(&[1; 2], &[(0, 1), (0, 1), (0, 1)]);
+    assert_eq!(one_way_table(&equal), one_way_table(&one));
+    one_way_writes(&one_way_table(&equal), &one);
+    let apart = [(0, 1), (1, 0), (0, 1)];
+    one_way_refuses(&file(&[1; 2], &apart), 15);
+}
+
+/// 7 and 17 go by the different buses that lead into a bus, and 4 by records.
+#[test]
+fn one_way_limits() {
+    let into = |first: u16| (1..=first).map(|first| (first, 0)).collect::<Vec<_>>();
+    let mut numerators = vec![5_354_228_880 + 223_092_870; 24];
+    numerators[0] = 223_092_870;
+    one_way_scores(&file(&[1; 24], &into(23)), 5_354_228_880, &numerators);
+    one_way_refuses(&file(&[1; 25], &into(24)), 7);
+    // a record twice counts once
+    let twice: Vec<_> = into(23).into_iter().flat_map(|record| [record, record]).collect();
+    assert_eq!(one_way_table(&file(&[1; 24], &twice))[73], 23);
+    // a bus may lead into all others, each of which has 1/2 of its own
+    let out: Vec<_> = (1..512).map(|second| (0, second)).collect();
+    let numerators = [&[2 + 511][..], &[1; 511]].concat();
+    one_way_scores(&file(&[1; 512], &out), 2, &numerators);
+
+    // bus 0, which none leads into, and bus 1, which one leads into
+    for (needs, holds) in [([1, 1], true), ([2, 1], false), ([1, 2], false), ([24, 1], false)] {
+        let built = [&[2][..], &needs.map(u16::from), &[1, 1, 0, 0, 1, 0]].concat();
+        if holds {
+            assert_eq!(one_way_table(&file(&needs, &[(0, 1)])), built);
+        } else {
+            one_way_refuses(&file(&needs, &[(0, 1)]), 17);
+            assert_eq!(one_way::degree(&built, 0), Err(Refusal::NoNetwork));
+        }
+    }
+
+    // 11,776 records and one more, of which no byte is there
+    one_way_refuses(&[1, 0, 1, 0x00, 0x2E], 1);
+    one_way_refuses(&[1, 0, 1, 0x01, 0x2E], 4);
+    let most = file(&[1; 2], &[(0, 1); 11_776]);
+    assert_eq!(one_way_table(&most), one_way_table(&file(&[1; 2], &[(0, 1)])));
+    one_way_refuses(&file(&[1; 2], &[(0, 1); 11_777]), 4);
+}
+
+/// The largest file: 23 buses lead into each, and each has the highest weight.
+#[test]
+fn one_way_lengths_that_are_enough() {
+    let most = Limits { buses: 512, entries: 13_314, file_bytes: 48_646, text_bytes: 28_215 };
+    assert_eq!(one_way::limits(), most);
+    let from = |bus: u16| (1..=23).map(move |step| (bus, (bus + step) % 512));
+    let mut lines: Vec<_> = (0..512).flat_map(from).collect();
+    lines.sort_unstable();
+    let largest = weighted(&file(&[1; 512], &lines), &[1000; 512]);
+    assert_eq!(largest.len(), most.file_bytes);
+    let mut table = vec![0; most.entries];
+    assert_eq!(one_way::read(&largest, &mut table), Ok(Counts { buses: 512, lines: 11_776 }));
+    assert_eq!(one_way::read(&largest, &mut table[..13_313]), Err(Refusal::TableTooShort));
+    one_way_writes(&table, &largest);
+    one_way_scores(&largest, 5_354_228_880, &[5_354_228_880_000; 512]);
+    assert!(one_way::whole_sheet(&table, &mut vec![0; most.text_bytes]).is_ok());
+    one_way_refuses(&[&largest[..], &[0]].concat(), 5);
+
+    // a line of large numbers: bus 0 leads into 510 buses that no other leads into, and, as one of
+    // 23, into bus 511. Its share is 1,000 times 1 + 510/2 + 1/24
+    let out = (1..512).map(|second| (0, second));
+    let lines: Vec<_> = out.chain((1..23).map(|first| (first, 511))).collect();
+    let wide = weighted(&file(&[1; 512], &lines), &[1000; 512]);
+    let mut text = [0; 55];
+    let bytes = one_way::sheet_line(&one_way_table(&wide), 1, &mut text).unwrap();
+    let line = std::str::from_utf8(&text[..bytes]).unwrap();
+    assert_eq!(line, "0 1 0 1370905686150000 768125/3\n");
 }

@@ -11,6 +11,7 @@ use Rattle.lists.proofs.Loops.{by_end}
 use Rattle.table_spec.specs.Limits.{max_buses}
 use Rattle.row_builder.specs.GrowingRows.{GrowingRows}
 use Rattle.row_builder.proofs.GrowingLaws.{growing_same, growing_done}
+use Rattle.file_spec.specs.FileBytes.{ends_in}
 use Rattle.file_spec.specs.Records.{neighbours, repeats}
 use Rattle.file_spec.proofs.RecordPairs.{neighbours-none, neighbours_again}
 use Rattle.file_records.proofs.RecordLaws.{repeats-last, first_bus, second_bus, first_fits, first-grown, second_fits, second_grown}
@@ -18,7 +19,7 @@ use Rattle.file_records.proofs.fill_rows.Statement.{statement}
 use Rattle.file_records.proofs.fill_rows.Tie as tie
 
 abbrev invariant-loop : tie.invariant-loop
-invariant-loop r n m next₀ rows₀ k₀ next rows k = (k ≤ m) × GrowingRows n (λ i. length (neighbours n m r i)) (neighbours n k r) next rows
+invariant-loop r n m next₀ rows₀ k₀ next rows k = (k ≤ m) × GrowingRows n (λ i. length (neighbours n m (ends_in r) i)) (neighbours n k (ends_in r)) next rows
 
 abbrev decreases-loop : tie.decreases-loop
 decreases-loop r n m next₀ rows₀ k₀ next rows k = m - k
@@ -36,7 +37,7 @@ at-loop d = (in-loop d).before
 abbrev start : tie.Then1 invariant-loop decreases-loop → tie.Start invariant-loop decreases-loop
 start d = (at-loop d).before.before.before
 
-new : (d : tie.Then1 invariant-loop decreases-loop) → repeats (start d).args.section.now (at-loop d).loop.k ≡ false
+new : (d : tie.Then1 invariant-loop decreases-loop) → repeats (ends_in (start d).args.section.now) (at-loop d).loop.k ≡ false
 new d = sym (repeats-last (start d).requires.0.1 (in-loop d).loop-test.true) ∙ failed d.before.equals-last.ensures d.if1.true
 
 low : (e : tie.After-ends-of invariant-loop decreases-loop) → (e.ends_of.result.first < max_buses) × (e.ends_of.result.second < max_buses)
@@ -93,7 +94,7 @@ returns : tie.Need-returns invariant-loop decreases-loop
 returns c =
     let s = c.before.before.before.before.args in
     let v = c.before.loop in
-    let w = by_end (λ k. GrowingRows s.n (λ i. length (neighbours s.n s.m s.section.now i)) (neighbours s.n k s.section.now) v.next v.rows) v.invariant.1 v.invariant.0 c.loop-test.false in
+    let w = by_end (λ k. GrowingRows s.n (λ i. length (neighbours s.n s.m (ends_in s.section.now) i)) (neighbours s.n k (ends_in s.section.now)) v.next v.rows) v.invariant.1 v.invariant.0 c.loop-test.false in
     growing_done w (λ i b. refl)
 
 pub fill-rows-spec : {M : Type 1} → statement M

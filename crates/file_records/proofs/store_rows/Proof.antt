@@ -8,8 +8,10 @@ use lib.ListN.{length, take, drop}
 use Rattle.lists.specs.Below.{join_below}
 use Rattle.lists.proofs.Places.{length_part}
 use Rattle.lists.proofs.Writes.{put_whole}
+use Rattle.file_spec.specs.FileBytes.{ends_in}
 use Rattle.file_spec.specs.Records.{neighbours}
-use Rattle.file_records.proofs.StoringRows.{laid-counted, numbers-counted, numbers-le, growing_start, laid-stored}
+use Rattle.file_spec.proofs.OrderedRecords.{rows-le}
+use Rattle.row_builder.proofs.StoredRows.{laid-counted, numbers-counted, growing_start, laid-stored}
 use Rattle.file_records.proofs.store_rows.Statement.{statement}
 use Rattle.file_records.proofs.store_rows.Tie as tie
 
@@ -25,7 +27,7 @@ store-starts-requires c κs =
     let h = c.before.before.before.before.requires in
     let g = h.0.1 in
     let w = h.0.2 in
-    ((g.buses, omega (arith, laid-counted w, h.1)), (w.size, omega (arith, numbers-le w g)))
+    ((g.buses, omega (arith, laid-counted w, h.1)), (w.size, omega (arith, numbers-counted w, rows-le g)))
 
 add-end : tie.Need-overflow-add-end
 add-end c = let z = end_le c.before.before in omega arith
@@ -52,7 +54,7 @@ returns c =
     let a = (start p).args in
     let h = (start p).requires.0 in
     let w = end_le p in
-    let rows = join_below a.n (neighbours a.n a.m a.section.now) in
+    let rows = join_below a.n (neighbours a.n a.m (ends_in a.section.now)) in
     let t = p.store-starts.new.1.1.0 in
     let first = a.from + a.n + 1 in
     laid-stored h.2 a.table.now a.from (omega arith) p.store-starts.ensures.0

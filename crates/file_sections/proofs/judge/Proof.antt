@@ -18,19 +18,20 @@ counted c = sym (ap outcome_of_count c.n.given.1) ∙ c.before.before.bus-sectio
 
 judge-lines-requires : tie.Need-judge-lines-requires
 judge-lines-requires c κs =
-    let f = c.before.before.before.before.before.args.file.now in
+    let s = c.before.before.before.before.before in
+    let f = s.args.file.now in
     let z = no_cause (bus_section_causes f) (file_bus_count f) (sym (counted c.before)) in
     (z.1, omega (arith, (buses_passed f z.0).buses, z.1))
 
 returns : tie.Need-returns
 returns c =
-    answer (section_causes _) (counts _)
-    (stage_stop (bus_section_causes _) (file_bus_count _) (line_section_causes _) (sym (ap outcome_of_count c.before.cause.given.1) ∙ c.before.before.before.bus-section.ensures))
+    answer (section_causes _ _) (counts _)
+    (stage_stop (bus_section_causes _) (file_bus_count _) (line_section_causes _ _) (sym (ap outcome_of_count c.before.cause.given.1) ∙ c.before.before.before.bus-section.ensures))
 
 returns_2 : tie.Need-returns-2
 returns_2 c =
-    answer (section_causes _) (counts _)
-    (stage_pass (bus_section_causes _) (file_bus_count _) (counted c.before.before) (due (line_section_causes _) (counts _) c.judge-lines.ensures))
+    answer (section_causes _ _) (counts _)
+    (stage_pass (bus_section_causes _) (file_bus_count _) (counted c.before.before) (due (line_section_causes _ _) (counts _) c.judge-lines.ensures))
 
 pub judge-spec : {M : Type 1} → statement M
 judge-spec =

@@ -5,7 +5,6 @@ use mathlib.Core.Path.{◌≡◌, refl, ap, ◌∙◌}
 use Prim.Native.Nat.{◌+◌}
 use Rattle.lists.proofs.Tests.{negated}
 use Rattle.refusals.proofs.Due.{answer, stop, pass, accept}
-use Rattle.table_spec.specs.Limits.{max_lines}
 use Rattle.table_spec.specs.Holds.{within}
 use Rattle.file_spec.specs.FileBytes.{word_at, file_line_count}
 use Rattle.file_spec.specs.Sections.{line_count_causes}
@@ -17,19 +16,21 @@ use Rattle.file_sections.proofs.line_count.Tie as tie
 read : (c : tie.After-word) → c.word.result ≡ file_line_count c.before.before.before.args.file.now
 read c = let s = c.before.before.before in c.word.ensures.0 ∙ ap (λ n. word_at s.args.file.now (2 + n)) s.requires.0
 
-judged : (c : tie.After-within) → c.within.result ≡ within 0 max_lines (file_line_count c.before.before.before.before.args.file.now)
-judged c = c.within.ensures ∙ ap (within 0 max_lines) (read c.before)
+judged : (c : tie.After-within) → let a = c.before.before.before.before.args in c.within.result ≡ within 0 a.most (file_line_count a.file.now)
+judged c = c.within.ensures ∙ ap (within 0 c.before.before.before.before.args.most) (read c.before)
 
 returns : tie.Need-returns
-returns c = answer (line_count_causes _) (file_line_count _) (stop (cut _ _ (omega arith)))
+returns c = (answer (line_count_causes _ _) (file_line_count _) (stop (cut _ _ (omega arith))), tt)
 
 returns_2 : tie.Need-returns-2
-returns_2 c = answer (line_count_causes _) (file_line_count _) (pass (reaches _ _ (omega arith)) (stop (negated (judged c.before) c.if2.true)))
+returns_2 c = (answer (line_count_causes _ _) (file_line_count _) (pass (reaches _ _ (omega arith)) (stop (negated (judged c.before) c.if2.true))), tt)
 
 returns-3 : tie.Need-returns-3
-returns-3 c =
-    answer (line_count_causes _) (file_line_count _)
-    (pass (reaches _ _ (omega arith)) (pass (negated (judged c.before) c.if2.false) (accept (read c.before.before) refl)))
+returns-3 c = (
+  answer (line_count_causes _ _) (file_line_count _)
+      (pass (reaches _ _ (omega arith)) (pass (negated (judged c.before) c.if2.false) (accept (read c.before.before) refl))),
+  c.before.before.word.ensures.1,
+)
 
 pub line-count-spec : {M : Type 1} → statement M
 line-count-spec =

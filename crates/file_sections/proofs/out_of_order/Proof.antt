@@ -4,12 +4,13 @@ use mathlib.Core.Bool.{false}
 use mathlib.Core.Path.{◌≡◌, sym, ◌∙◌}
 use Prim.Native.Nat.{◌-◌, ◌≤◌}
 use Rattle.lists.proofs.Loops.{by_end, any_below_start, any_below_by, any_below_more}
+use Rattle.file_spec.specs.FileBytes.{ends_in}
 use Rattle.file_spec.specs.RecordOrder.{out_of_order}
 use Rattle.file_sections.proofs.out_of_order.Statement.{statement}
 use Rattle.file_sections.proofs.out_of_order.Tie as tie
 
 abbrev invariant-loop : tie.invariant-loop
-invariant-loop r m k₀ k = (k ≤ m) × (out_of_order k r ≡ false)
+invariant-loop r m k₀ k = (k ≤ m) × (out_of_order k (ends_in r) ≡ false)
 
 abbrev decreases-loop : tie.decreases-loop
 decreases-loop r m k₀ k = m - k
@@ -30,7 +31,7 @@ loop-again c = (
 )
 
 returns_2 : tie.Need-returns-2 invariant-loop decreases-loop
-returns_2 c = sym (by_end (λ k. out_of_order k c.before.before.before.args.section.now ≡ false) c.before.loop.invariant.1 c.before.loop.invariant.0 c.loop-test.false)
+returns_2 c = sym (by_end (λ k. out_of_order k (ends_in c.before.before.before.args.section.now) ≡ false) c.before.loop.invariant.1 c.before.loop.invariant.0 c.loop-test.false)
 
 pub out-of-order-spec : {M : Type 1} → statement M
 out-of-order-spec =

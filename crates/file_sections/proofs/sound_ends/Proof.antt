@@ -6,13 +6,14 @@ use Prim.Native.Nat.{◌-◌, ◌≤◌}
 use Rattle.lists.proofs.Tests.{fails, passed, failed, never_both}
 use borrow.Author.Count.{below_more}
 use native.Mathlib.Nat.{not-suc-le-zero}
+use Rattle.file_spec.specs.FileBytes.{ends_in}
 use Rattle.file_spec.specs.SoundSections.{SoundEnds}
 use Rattle.file_spec.proofs.SoundSections.{two_facts, two_test, ends_facts, ends_test}
 use Rattle.file_sections.proofs.sound_ends.Statement.{statement}
 use Rattle.file_sections.proofs.sound_ends.Tie as tie
 
 abbrev invariant-loop : tie.invariant-loop
-invariant-loop r n m k₀ k = (k ≤ m) × SoundEnds n k r
+invariant-loop r n m k₀ k = (k ≤ m) × SoundEnds n k (ends_in r)
 
 abbrev decreases-loop : tie.decreases-loop
 decreases-loop r n m k₀ k = m - k

@@ -7,9 +7,10 @@ use Prim.Native.Nat.{ℕ}
 use lib.ListN.{length}
 use Rattle.refusals.proofs.Due.{stop, pass, below, not-below, accept}
 use Rattle.table_spec.specs.Layout.{table_entries}
+use Rattle.file_spec.specs.FileBytes.{ends_in}
 use Rattle.file_spec.specs.Records.{degree_too_high, need_above_degree, pair_count}
 use Rattle.file_spec.proofs.RecordPairs.{pair_count-le}
-use Rattle.reader.proofs.Building.{too_high_counted, above_counted}
+use Rattle.file_records.proofs.CountedRecords.{too_high_counted, above_counted}
 use Rattle.reader.proofs.read_lines.Statement.{statement}
 use Rattle.reader.proofs.read_lines.Tie as tie
 
@@ -29,24 +30,24 @@ entries-requires c κs =
     let p = counting (compared c) in
     let s = start p in
     let g = s.pre.2 in
-    (g.buses, omega (arith, p.count-neighbours.ensures.0, pair_count-le s.args.m s.args.section.now, g.lines))
+    (g.buses, omega (arith, p.count-neighbours.ensures.0, pair_count-le s.args.m (ends_in s.args.section.now), g.lines))
 
 returns : tie.Need-returns
 returns c = stop (sym (too_high_counted c.before.before.before.count-neighbours.ensures.1) ∙ sym c.before.degree-too-high.ensures ∙ c.if1.true)
 
 -- no degree is too high
-low : (d : tie.Else1) → let s = start (counting d) in degree_too_high (length s.args.needs.now) s.args.m s.args.section.now ≡ false
+low : (d : tie.Else1) → let s = start (counting d) in degree_too_high (length s.args.needs.now) s.args.m (ends_in s.args.section.now) ≡ false
 low d = sym (too_high_counted (counting d).count-neighbours.ensures.1) ∙ sym d.before.degree-too-high.ensures ∙ d.if1.false
 
 -- a need cannot be met exactly if the code says so
-above : (e : tie.After-needs-can-be-met) → let a = (start (counting e.before.before)).args in not e.needs-can-be-met.result ≡ need_above_degree (length a.needs.now) a.needs.now a.m a.section.now
+above : (e : tie.After-needs-can-be-met) → let a = (start (counting e.before.before)).args in not e.needs-can-be-met.result ≡ need_above_degree (length a.needs.now) a.needs.now a.m (ends_in a.section.now)
 above e = let p = counting e.before.before in ap not e.needs-can-be-met.ensures ∙ above_counted (start p).args.needs.now p.count-neighbours.ensures.1
 
 returns_2 : tie.Need-returns-2
 returns_2 c = pass (low c.before.before.before) (stop (sym (above c.before) ∙ c.if2.true))
 
 -- so many entries are asked for
-asked : (e : tie.After-entries) → let p = counting (compared e.before) in let s = start p in e.entries.result ≡ table_entries (length s.args.needs.now) (pair_count s.args.m s.args.section.now)
+asked : (e : tie.After-entries) → let p = counting (compared e.before) in let s = start p in e.entries.result ≡ table_entries (length s.args.needs.now) (pair_count s.args.m (ends_in s.args.section.now))
 asked e = omega (arith, e.entries.ensures, (counting (compared e.before)).count-neighbours.ensures.0)
 
 returns-3 : tie.Need-returns-3

@@ -3,9 +3,11 @@ use borrow.Author.Rules.{rules}
 use native.Mathlib.Omega.{arith}
 use lib.ListN.{length}
 use Rattle.lists.proofs.JoinBelow.{length-map_below}
-use Rattle.file_spec.specs.FileBytes.{weight_in}
+use Rattle.file_spec.specs.Kinds.{two_way_file}
+use Rattle.file_spec.proofs.KindLaws.{two_way_lem, laid-numbered}
+use Rattle.file_spec.specs.FileBytes.{weight_in, ends_in}
 use Rattle.file_spec.specs.Records.{neighbours}
-use Rattle.reader.proofs.Building.{laid-length, built}
+use Rattle.bus_builder.proofs.Built.{built}
 use Rattle.reader.proofs.store_table.Statement.{statement}
 use Rattle.reader.proofs.store_table.Tie as tie
 
@@ -26,7 +28,7 @@ store-rows-requires : tie.Need-store-rows-requires
 store-rows-requires c κs =
     let w = c.before.before.before.before.before in
     let s = start w.before in
-    (s.pre.0, omega (arith, c.starts_from.ensures, laid-length s.pre.0.1, s.pre.1.1, w.store-weights.auto.1.1.0, (needed w.before).Store-needs.kept.1.0))
+    (s.pre.0, omega (arith, c.starts_from.ensures, laid-numbered two_way_file two_way_lem s.pre.0.1.ends, s.pre.1.1, w.store-weights.auto.1.1.0, (needed w.before).Store-needs.kept.1.0))
 
 returns : tie.Need-returns
 returns c =
@@ -35,7 +37,7 @@ returns c =
     let f = w.before in
     let a = (start f).args in
     let n = length a.needs.now in
-    built _ a.needs.now _ (neighbours n a.m a.section.now) (length-map_below n (weight_in a.weights.now)) f.weights-from.ensures r.before.starts_from.ensures
+    built _ a.needs.now _ (neighbours n a.m (ends_in a.section.now)) (length-map_below n (weight_in a.weights.now)) f.weights-from.ensures r.before.starts_from.ensures
     (needed f).Store-needs.ensures w.store-weights.ensures r.store-rows.ensures
 
 pub store-table-spec : {M : Type 1} → statement M

@@ -3,13 +3,13 @@ use borrow.Author.Rules.{rules}
 use native.Mathlib.Omega.{arith}
 use mathlib.Core.Path.{sym}
 use Rattle.lists.proofs.Tests.{fails, passed, failed, never_both}
-use Rattle.table_spec.proofs.Facts.{within_facts, within_test, complete_facts, complete-read}
+use Rattle.table_spec.proofs.Facts.{within_facts, within-test, complete_facts, complete-read}
 use Rattle.table_check.proofs.complete.Statement.{statement}
 use Rattle.table_check.proofs.complete.Tie as tie
 
 returns : tie.Need-returns
 returns c =
-    sym (fails _ (λ w. let z = complete_facts _ _ w in never_both (within_test _ _ _ (omega arith) (omega arith)) (failed c.before.within.ensures c.if1.true)))
+    sym (fails _ (λ w. let z = complete_facts _ _ w in never_both (within-test _ _ _ (omega arith) (omega arith)) (failed c.before.within.ensures c.if1.true)))
 
 returns_2 : tie.Need-returns-2
 returns_2 c = sym (fails _ (λ w. let z = complete_facts _ _ w in omega arith))

@@ -2,67 +2,48 @@
 use borrow.Author.Rules.{rules}
 use native.Mathlib.Omega.{arith}
 use mathlib.Core.Bool.{true}
-use mathlib.Core.Path.{◌≡◌, sym}
-use Rattle.lists.proofs.Tests.{fails, passed, failed, never_both}
-use Rattle.table_spec.proofs.Facts.{complete_facts, complete_test, two_way_test, holds_facts, steps_read, holds_read}
-use Rattle.table_spec.specs.Holds.{complete, two_way}
+use mathlib.Core.Path.{◌≡◌, sym, ◌∙◌}
+use Rattle.lists.proofs.Tests.{passed, failed, and_fails_left}
+use Rattle.table_spec.proofs.Facts.{one_way_facts, holds_both, rows_held, both_read}
+use Rattle.table_spec.specs.Holds.{holds_one_way}
 use Rattle.table_check.proofs.holds.Statement.{statement}
 use Rattle.table_check.proofs.holds.Tie as tie
 
+-- the slice holds a network of one-way lines
+held : (c : tie.Else1) → holds_one_way c.before.before.before.args.table.now ≡ true
+held c = passed c.before.holds-one-way.ensures c.if1.false
+
 returns : tie.Need-returns
-returns c = sym (fails _ (λ w. let z = (holds_facts _ w).shape.complete in omega arith))
+returns c = sym (holds_both _ ∙ and_fails_left _ _ (failed c.before.holds-one-way.ensures c.if1.true))
 
-returns_2 : tie.Need-returns-2
-returns_2 c = sym (fails _ (λ w. never_both (complete_test _ _ (holds_facts _ w).shape.complete) (rw c.before.before.starts-at.ensures.0 at (failed c.before.complete.ensures c.if2.true))))
+bus-count-requires : tie.Need-bus-count-requires
+bus-count-requires c κs = let z = (one_way_facts _ (held c)).shape.complete in omega arith
 
-two-way-requires : tie.Need-two-way-requires
-two-way-requires c κs = complete_facts _ _ (passed c.before.complete.ensures c.if2.false)
-
-returns-3 : tie.Need-returns-3
-returns-3 c = sym (fails _ (λ w. let h = holds_facts _ w in never_both (two_way_test _ _ h.shape.rows h.mirrored) (rw c.before.before.before.before.starts-at.ensures.0 at (failed c.before.two_way_lem.ensures c.if3.true))))
-
--- where needs are tested, the table is complete and its rows are right
-abbrev entered : tie.Else3 → tie.After-complete
-entered d = d.before.before.before
-
-is_complete : (d : tie.Else3) → complete (entered d).before.starts-at.result (entered d).before.before.before.before.args.table.now ≡ true
-is_complete d = passed (entered d).complete.ensures d.before.before.if2.false
-
-is_two_way : (d : tie.Else3) → two_way (entered d).before.starts-at.result (entered d).before.before.before.before.args.table.now ≡ true
-is_two_way d = passed d.before.two_way_lem.ensures d.if3.false
-
-needs-requires : tie.Need-needs-requires
-needs-requires c κs = let z = complete_facts _ _ (is_complete c) in omega arith
-
-weights-requires : tie.Need-weights-requires
-weights-requires c κs = let z = complete_facts _ _ (is_complete c.before) in omega (arith, (entered c.before).before.starts-at.ensures.0)
+starts-at-requires : tie.Need-starts-at-requires
+starts-at-requires c κs = let z = (one_way_facts _ (held c.before)).shape.complete in omega arith
 
 starts-requires : tie.Need-starts-requires
-starts-requires c κs = complete_facts _ _ (is_complete c.before.before)
+starts-requires c κs = rw c.starts-at.ensures.0 (one_way_facts _ (held c.before.before)).shape.complete
 
-valid-buses-requires : tie.Need-valid-buses-requires
-valid-buses-requires c κs =
-    let d = c.before.before.before in
-    steps_read _ (entered d).before.starts-at.ensures.0 c.starts.ensures c.before.before.needs.ensures c.before.weights.ensures (is_complete d) (is_two_way d)
+neighbour-numbers-requires : tie.Need-neighbour-numbers-requires
+neighbour-numbers-requires c κs = let f = c.before in rw f.starts-at.ensures.0 (one_way_facts _ (held f.before.before)).shape.complete
 
-returns-4 : tie.Need-returns-4
-returns-4 c =
-    let e = c.before in
-    let d = e.before.before.before in
-    holds_read _ (entered d).before.starts-at.ensures.0 e.starts.ensures e.before.before.needs.ensures e.before.weights.ensures (is_complete d) (is_two_way d) c.valid-buses.ensures
+mirrored-requires : tie.Need-mirrored-requires
+mirrored-requires c κs =
+    let s = c.before in
+    let f = s.before in
+    let n = f.before in
+    rows_held _ (held n.before) f.starts-at.ensures.0 n.bus-count.ensures.0 s.starts.ensures c.neighbour-numbers.ensures
+
+returns_2 : tie.Need-returns-2
+returns_2 c =
+    let l = c.before in
+    let s = l.before in
+    let f = s.before in
+    let n = f.before in
+    both_read _ (held n.before) f.starts-at.ensures.0 n.bus-count.ensures.0 s.starts.ensures l.neighbour-numbers.ensures c.mirrored.ensures
 
 pub holds-spec : {M : Type 1} → statement M
 holds-spec =
     tie.close
-    (tie.spec
-    returns
-    (λ c κs. search rules)
-    (λ c κs. search rules)
-    returns_2
-    two-way-requires
-    returns-3
-    needs-requires
-    weights-requires
-    starts-requires
-    valid-buses-requires
-    returns-4)
+    (tie.spec (λ c κs. search rules) returns bus-count-requires starts-at-requires starts-requires neighbour-numbers-requires mirrored-requires returns_2)

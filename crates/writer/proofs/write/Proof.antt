@@ -3,14 +3,17 @@ use borrow.Author.Rules.{rules}
 use native.Mathlib.Nat.{zero-add}
 use native.Mathlib.Omega.{arith}
 use mathlib.Core.Bool.{true}
-use mathlib.Core.Path.{◌≡◌, refl, ap, ◌∙◌}
+use mathlib.Core.Path.{◌≡◌, refl, sym, ap, ◌∙◌}
+use lib.ListN.{length}
 use Rattle.lists.proofs.Tests.{passed, failed}
 use Rattle.refusals.proofs.Due.{accept, below, not-below}
 use Rattle.table_spec.specs.Layout.{weights}
 use Rattle.table_spec.specs.Holds.{holds, Holds}
 use Rattle.table_spec.proofs.Facts.{holds_facts}
 use Rattle.table_spec.proofs.TableCauses.{no_network, on_held}
-use Rattle.write_spec.specs.FileOf.{all_ones}
+use Rattle.table_spec.proofs.LineCount.{lines-le}
+use Rattle.write_spec.specs.FileOf.{all_ones, file_of}
+use Rattle.write_spec.proofs.PairLaws.{bytes_read}
 use Rattle.write_spec.proofs.WriteDue.{write_due}
 use Rattle.writer.proofs.write.Statement.{statement}
 use Rattle.writer.proofs.write.Tie as tie
@@ -33,16 +36,31 @@ weights-requires c κs = let z = (held c).shape.complete in omega arith
 ones : (c : tie.After-all-ones) → c.all_ones.result ≡ all_ones (weights c.before.before.before.before.before.before.args.table.now)
 ones c = c.all_ones.ensures ∙ ap all_ones c.before.weights.ensures
 
+bus-count-requires : tie.Need-bus-count-requires
+bus-count-requires c κs = let z = (held c.before.before).shape.complete in omega arith
+
+lines-requires : tie.Need-lines-requires
+lines-requires c κs = held c.before.before.before
+
 byte-count-requires : tie.Need-byte-count-requires
-byte-count-requires c κs = (held c.before.before, ones c)
+byte-count-requires c κs = let b = c.before in (b.bus-count.ensures.1, omega (arith, c.lines.ensures, lines-le _ (held b.before.before.before)))
+
+-- so many bytes its file has
+counted : (c : tie.After-byte-count) → c.byte-count.result ≡ length (file_of c.before.before.before.before.before.before.before.before.before.args.table.now)
+counted c =
+    let m = c.before in
+    let b = m.before in
+    c.byte-count.ensures ∙ sym (bytes_read _ (held b.before.before.before) b.bus-count.ensures.0 m.lines.ensures (ones b.before))
 
 returns_2 : tie.Need-returns-2
 returns_2 c =
-    let v = c.before in write_due _ _ (on_held (passes v.before.before.before) (below refl v.byte-count.ensures c.if2.true))
+    let v = c.before in write_due _ _ (on_held (passes v.before.before.before.before.before) (below refl (counted v) c.if2.true))
 
 write-file-requires : tie.Need-write-file-requires
 write-file-requires c κs =
-    let v = c.before.before in (held v.before.before.before, ones v.before, omega (arith, v.byte-count.ensures, c.before.if2.false))
+    let v = c.before.before in
+    let o = v.before.before.before in
+    (held o.before.before, ones o, omega (arith, counted v, c.before.if2.false))
 
 returns-3 : tie.Need-returns-3
 returns-3 c =
@@ -50,7 +68,7 @@ returns-3 c =
     let e = w.before.before in
     let v = e.before in
     let f = w.write-file.ensures in
-    write_due _ _ (on_held (passes v.before.before.before) (not-below refl v.byte-count.ensures e.if2.false (accept (f.0 ∙ zero-add _) f.1)))
+    write_due _ _ (on_held (passes v.before.before.before.before.before) (not-below refl (counted v) e.if2.false (accept (f.0 ∙ zero-add _) f.1)))
 
 pub write_spec : {M : Type 1} → statement M
 write_spec =
@@ -60,6 +78,8 @@ write_spec =
     returns
     weights-requires
     (λ c κs. search rules)
+    bus-count-requires
+    lines-requires
     byte-count-requires
     returns_2
     write-file-requires

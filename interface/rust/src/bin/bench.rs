@@ -1,9 +1,12 @@
 //! Measures the library against the plain reading that the tests compare it with, and prints the
 //! times as Markdown: `cargo run --release --bin bench`.
 
+#[path = "../../tests/calls/mod.rs"]
+mod calls;
 #[path = "../../tests/plain/mod.rs"]
 mod plain;
 
+use calls::{Calls, ONE_WAY, TWO_WAY};
 use share_sheet::{limits, Refusal};
 use std::hint::black_box;
 use std::slice::from_ref;
@@ -67,14 +70,15 @@ fn draws() -> impl FnMut(usize) -> usize {
 struct Network {
     name: String,
     buses: u16,
-    /// Ascending, and the lower bus of a line first.
+    /// Ascending, and, if lines run both ways, the lower bus of a line first.
     lines: Vec<(u16, u16)>,
+    calls: &'static Calls,
 }
 
 impl Network {
     fn star(buses: u16) -> Self {
         let lines = (1..buses).map(|leaf| (0, leaf)).collect();
-        Network { name: format!("star of {buses} buses"), buses, lines }
+        Network { name: format!("star of {buses} buses"), buses, lines, calls: &TWO_WAY }
     }
 
     /// Each bus is joined to those that are so many steps away round a ring.
@@ -85,7 +89,26 @@ impl Network {
             .collect();
         lines.sort_unstable();
         lines.dedup();
-        Network { name: format!("{name} of {buses} buses"), buses, lines }
+        Network { name: format!("{name} of {buses} buses"), buses, lines, calls: &TWO_WAY }
+    }
+
+    /// One-way lines.
+    fn one_way(name: &str, buses: u16, lines: impl Iterator<Item = (u16, u16)>) -> Self {
+        let mut lines: Vec<_> = lines.collect();
+        lines.sort_unstable();
+        Network { name: format!("one-way, {name}"), buses, lines, calls: &ONE_WAY }
+    }
+
+    /// One-way lines in both directions of each pair.
+    fn one_way_star(buses: u16) -> Self {
+        let lines = (1..buses).flat_map(|leaf| [(0, leaf), (leaf, 0)]);
+        Self::one_way(&format!("star of {buses} buses, both directions"), buses, lines)
+    }
+
+    /// Each bus leads into the next so many round a ring.
+    fn one_way_ring(name: &str, buses: u16, steps: u16) -> Self {
+        let from = |a| (1..=steps).map(move |step| (a, (a + step) % buses));
+        Self::one_way(&format!("{name} of {buses} buses"), buses, (0..buses).flat_map(from))
     }
 
     fn sparse(buses: u16) -> Self {
@@ -151,8 +174,10 @@ impl Network {
     }
 
     fn table_of(&self, file: &[u8]) -> Vec<u16> {
-        let mut table = vec![0; 3 * self.buses as usize + 2 + 2 * self.lines.len()];
-        share_sheet::read(file, &mut table).expect("the network is sound");
+        let mut table = vec![0; (self.calls.limits)().entries];
+        (self.calls.read.0)(file, &mut table).expect("the network is sound");
+        let last_start = table[1 + 3 * self.buses as usize];
+        table.truncate(2 + 3 * self.buses as usize + last_start as usize);
         table
     }
 
@@ -176,46 +201,54 @@ impl Network {
 }
 
 /// Read of a file that is accepted, or refused with a number.
-fn measure_read(file: &[u8], refusal: Option<u8>) -> [f64; 2] {
-    let mut tables = [vec![0; limits().entries], vec![0; limits().entries]];
+fn measure_read(calls: &Calls, file: &[u8], refusal: Option<u8>) -> [f64; 2] {
+    let entries = (calls.limits)().entries;
+    let mut tables = [vec![0; entries], vec![0; entries]];
     let [mine, other] = &mut tables;
-    assert_eq!(share_sheet::read(file, mine).err().map(Refusal::number), refusal);
-    assert_eq!(plain::read(file, other).err(), refusal);
+    let (library, plain) = calls.read;
+    assert_eq!(library(file, mine).err().map(Refusal::number), refusal);
+    assert_eq!(plain(file, other).err(), refusal);
+    assert_eq!(mine, other);
     measure(
-        || _ = black_box(share_sheet::read(black_box(file), black_box(mine))),
-        || _ = black_box(plain::read(black_box(file), black_box(other))),
+        || _ = black_box(library(black_box(file), black_box(mine))),
+        || _ = black_box(plain(black_box(file), black_box(other))),
     )
 }
 
-fn measure_write(table: &[u16]) -> [f64; 2] {
-    let mut files = [vec![0; limits().file_bytes], vec![0; limits().file_bytes]];
+fn measure_write(calls: &Calls, table: &[u16]) -> [f64; 2] {
+    let bytes = (calls.limits)().file_bytes;
+    let mut files = [vec![0; bytes], vec![0; bytes]];
     let [mine, other] = &mut files;
-    let bytes = share_sheet::write(table, mine).expect("the network is sound");
-    assert_eq!(plain::write(table, other), Ok(bytes));
+    let (library, plain) = calls.write;
+    let bytes = library(table, mine).expect("the network is sound");
+    assert_eq!(plain(table, other), Ok(bytes));
     assert_eq!(mine, other);
     measure(
-        || _ = black_box(share_sheet::write(black_box(table), black_box(mine))),
-        || _ = black_box(plain::write(black_box(table), black_box(other))),
+        || _ = black_box(library(black_box(table), black_box(mine))),
+        || _ = black_box(plain(black_box(table), black_box(other))),
     )
 }
 
 /// The mean over tables that are scored in turn.
-fn measure_shares(tables: &[Vec<u16>]) -> [f64; 2] {
+fn measure_shares(calls: &Calls, tables: &[Vec<u16>]) -> [f64; 2] {
     let mut numerators = [vec![0; limits().buses], vec![0; limits().buses]];
     let [mine, other] = &mut numerators;
+    let (library, plain) = calls.shares;
     let all = measure(
-        || tables.iter().for_each(|table| _ = black_box(share_sheet::shares(table, mine))),
-        || tables.iter().for_each(|table| _ = black_box(plain::shares(table, other))),
+        || tables.iter().for_each(|table| _ = black_box(library(table, mine))),
+        || tables.iter().for_each(|table| _ = black_box(plain(table, other))),
     );
+    assert_eq!(mine, other);
     all.map(|time| time / tables.len() as f64)
 }
 
 /// The mean over all buses.
-fn measure_share(table: &[u16]) -> [f64; 2] {
+fn measure_share(calls: &Calls, table: &[u16]) -> [f64; 2] {
     let n = table[0] as usize;
+    let (library, plain) = calls.share;
     let all = measure(
-        || (0..n).for_each(|bus| _ = black_box(share_sheet::share(black_box(table), bus))),
-        || (0..n).for_each(|bus| _ = black_box(plain::share(black_box(table), bus))),
+        || (0..n).for_each(|bus| _ = black_box(library(black_box(table), bus))),
+        || (0..n).for_each(|bus| _ = black_box(plain(black_box(table), bus))),
     );
     all.map(|time| time / n as f64)
 }
@@ -232,45 +265,57 @@ fn measure_outage(table: &[u16], line: usize) -> [f64; 2] {
     )
 }
 
-fn measure_whole_sheet(table: &[u16]) -> [f64; 2] {
+fn measure_whole_sheet(calls: &Calls, table: &[u16]) -> [f64; 2] {
     let mut texts = [vec![0; limits().text_bytes], vec![0; limits().text_bytes]];
     let [mine, other] = &mut texts;
-    measure(
-        || _ = black_box(share_sheet::whole_sheet(black_box(table), black_box(mine))),
-        || _ = black_box(plain::whole_sheet(black_box(table), black_box(other))),
-    )
+    let (library, plain) = calls.whole_sheet;
+    let times = measure(
+        || _ = black_box(library(black_box(table), black_box(mine))),
+        || _ = black_box(plain(black_box(table), black_box(other))),
+    );
+    assert_eq!(mine, other);
+    times
 }
 
 /// All lines, one call for each.
-fn measure_sheet_lines(table: &[u16]) -> [f64; 2] {
+fn measure_sheet_lines(calls: &Calls, table: &[u16]) -> [f64; 2] {
     let n = table[0] as usize;
     let mut texts = [vec![0; limits().text_bytes], vec![0; limits().text_bytes]];
     let [mine, other] = &mut texts;
+    let (library, plain) = calls.sheet_line;
     measure(
-        || (0..=n).for_each(|i| _ = black_box(share_sheet::sheet_line(black_box(table), i, mine))),
-        || (0..=n).for_each(|i| _ = black_box(plain::sheet_line(black_box(table), i, other))),
+        || (0..=n).for_each(|i| _ = black_box(library(black_box(table), i, mine))),
+        || (0..=n).for_each(|i| _ = black_box(plain(black_box(table), i, other))),
     )
 }
 
 fn print_calls(network: &Network) {
+    let calls = network.calls;
     let table = network.table();
-    let calls = [
-        ("Read", measure_read(&network.ascending(), None)),
+    let rows = [
+        ("Read", measure_read(calls, &network.ascending(), None)),
         (
             "Read, refused: last two records swapped",
-            measure_read(&network.last_swapped(), Some(15)),
+            measure_read(calls, &network.last_swapped(), Some(15)),
         ),
-        ("Write", measure_write(&table)),
-        ("Shares", measure_shares(from_ref(&table))),
-        ("Share, mean over all buses", measure_share(&table)),
-        ("Outage, the line in the middle", measure_outage(&table, network.lines.len() / 2)),
-        ("Outage, the last line", measure_outage(&table, network.lines.len() - 1)),
-        ("whole sheet, one call", measure_whole_sheet(&table)),
-        ("whole sheet, a call for each line", measure_sheet_lines(&table)),
+        ("Write", measure_write(calls, &table)),
+        ("Shares", measure_shares(calls, from_ref(&table))),
+        ("Share, mean over all buses", measure_share(calls, &table)),
+        ("whole sheet, one call", measure_whole_sheet(calls, &table)),
+        ("whole sheet, a call for each line", measure_sheet_lines(calls, &table)),
     ];
-    for (call, times) in calls {
+    for (call, times) in rows {
         print_call(&network.name, call, times);
     }
+}
+
+/// Outages of a network of two-way lines.
+fn print_outages(network: &Network) {
+    let table = network.table();
+    let (middle, last) = (network.lines.len() / 2, network.lines.len() - 1);
+    let name = &network.name;
+    print_call(name, "Outage, the line in the middle", measure_outage(&table, middle));
+    print_call(name, "Outage, the last line", measure_outage(&table, last));
 }
 
 fn print_call(network: &str, call: &str, [library, plain]: [f64; 2]) {
@@ -283,7 +328,7 @@ fn print_call(network: &str, call: &str, [library, plain]: [f64; 2]) {
 fn print_mixed_needs() {
     let most = limits().buses as u16;
     for network in [Network::sparse(most), Network::dense(most)] {
-        let times = measure_shares(&network.mixed_needs(200));
+        let times = measure_shares(&TWO_WAY, &network.mixed_needs(200));
         print_call(&network.name, "Shares, needs at random, mean over 200 networks", times);
     }
 }
@@ -295,10 +340,10 @@ fn print_weights() {
         let file = network.weighted();
         let table = network.table_of(&file);
         let calls = [
-            ("Read, weights at random", measure_read(&file, None)),
-            ("Write, weights at random", measure_write(&table)),
-            ("Shares, weights at random", measure_shares(from_ref(&table))),
-            ("whole sheet, one call, weights at random", measure_whole_sheet(&table)),
+            ("Read, weights at random", measure_read(&TWO_WAY, &file, None)),
+            ("Write, weights at random", measure_write(&TWO_WAY, &table)),
+            ("Shares, weights at random", measure_shares(&TWO_WAY, from_ref(&table))),
+            ("whole sheet, one call, weights at random", measure_whole_sheet(&TWO_WAY, &table)),
         ];
         for (call, times) in calls {
             print_call(&network.name, call, times);
@@ -309,7 +354,7 @@ fn print_weights() {
 /// Read of a file that is out of order from its front; the ends of all records are judged before.
 fn print_shuffled() {
     let network = Network::dense(limits().buses as u16);
-    let times = measure_read(&network.shuffled(), Some(15));
+    let times = measure_read(&TWO_WAY, &network.shuffled(), Some(15));
     print_call(&network.name, "Read, refused: records shuffled", times);
 }
 
@@ -317,15 +362,17 @@ fn print_shuffled() {
 fn print_repeats() {
     let most = limits().buses as u16;
     for network in [Network::sparse(most), Network::dense(most / 2)] {
-        let times = measure_read(&network.doubled(), None);
+        let times = measure_read(&TWO_WAY, &network.doubled(), None);
         print_call(&network.name, "Read, each record twice", times);
     }
     let lines = vec![(0, 1)];
-    let network = Network { name: format!("one line, {most} buses"), buses: most, lines };
+    let name = format!("one line, {most} buses");
+    let network = Network { name, buses: most, lines, calls: &TWO_WAY };
     // as many records as the largest file has, which has four bytes for each, and weights besides
     let records = (limits().file_bytes - network.weighted().len()) / 4 + 1;
     let call = format!("Read, {records} records of it");
-    print_call(&network.name, &call, measure_read(&network.file(&vec![(0, 1); records]), None));
+    let times = measure_read(&TWO_WAY, &network.file(&vec![(0, 1); records]), None);
+    print_call(&network.name, &call, times);
 }
 
 fn print_growth(network: impl Fn(u16) -> Network) {
@@ -340,9 +387,9 @@ fn print_growth(network: impl Fn(u16) -> Network) {
         let table = network.table();
         let entries = table.len();
         let calls = [
-            measure_read(&network.ascending(), None),
-            measure_write(&table),
-            measure_shares(from_ref(&table)),
+            measure_read(&TWO_WAY, &network.ascending(), None),
+            measure_write(&TWO_WAY, &table),
+            measure_shares(&TWO_WAY, from_ref(&table)),
         ];
         print!("| {buses} | {entries} |");
         for time in calls.concat() {
@@ -364,7 +411,14 @@ fn main() {
     let most = limits().buses as u16;
     for network in [Network::star(24), Network::sparse(most), Network::dense(most)] {
         print_calls(&network);
+        print_outages(&network);
     }
+    let one_way = [
+        Network::one_way_star(24),
+        Network::one_way_ring("ring", most, 1),
+        Network::one_way_ring("dense ring", most, 23),
+    ];
+    one_way.iter().for_each(print_calls);
     print_mixed_needs();
     print_weights();
     print_shuffled();

@@ -1,7 +1,37 @@
 //! Networks, files and tables made at random from a seed, sound ones and damaged ones.
+#![allow(dead_code)] // each program that has this module uses a part of it
 
-/// How many records a file may have.
-pub const MOST_RECORDS: usize = 5888;
+mod one_way;
+
+/// Which way the lines of a network run.
+#[derive(Clone, Copy, Debug, PartialEq, Eq)]
+pub enum Kind {
+    TwoWay,
+    OneWay,
+}
+
+impl Kind {
+    /// How many records a file may have.
+    pub fn most_records(self) -> usize {
+        match self {
+            Kind::TwoWay => 5_888,
+            Kind::OneWay => 11_776,
+        }
+    }
+
+    /// How many entries a line takes in the rows of a table.
+    pub fn entries_of_line(self) -> usize {
+        match self {
+            Kind::TwoWay => 2,
+            Kind::OneWay => 1,
+        }
+    }
+
+    /// The entries of a table.
+    pub fn entries(self, buses: usize, lines: usize) -> usize {
+        3 * buses + 2 + self.entries_of_line() * lines
+    }
+}
 
 /// Weights that no bus may have.
 pub const NO_WEIGHTS: [u16; 5] = [0, 0, 1001, 1001, 0xFFFF];
@@ -42,9 +72,10 @@ impl Random {
     }
 }
 
-/// The needs of a network, its records in their order, of which several may name one pair, and its
+/// The needs of a network, its records in their order, of which several may name one line, and its
 /// weights. Without weights its file ends with the records, and each bus has weight 1.
 pub struct Network {
+    pub kind: Kind,
     pub needs: Vec<u8>,
     pub records: Vec<(u16, u16)>,
     pub weights: Option<Vec<u16>>,
@@ -52,8 +83,8 @@ pub struct Network {
 
 impl Network {
     /// A sound network, its records in order. Most are small; some have as many buses, lines or
-    /// records as may be. One in three names pairs again, and one in three has no weights.
-    pub fn random(random: &mut Random) -> Self {
+    /// records as may be. One in three names lines again, and one in three has no weights.
+    pub fn random(kind: Kind, random: &mut Random) -> Self {
         let n = match random.below(600) {
             0..=399 => 1 + random.below(12),
             400..=540 => 13 + random.below(28),
@@ -61,21 +92,20 @@ impl Network {
             598 => 480 + random.below(33),
             _ => 512,
         };
-        let records = match random.below(10) {
-            0 if n > 24 => Self::dense_lines(n, random),
-            1..=3 if n > 23 => Self::star_lines(n, random),
-            _ => Self::any_lines(n, random),
+        let records = match kind {
+            Kind::TwoWay => Self::two_way_lines(n, random),
+            Kind::OneWay => one_way::lines(n, random),
         };
         let weights = Self::random_weights(n, random);
-        let mut network = Network { needs: vec![1; n], records, weights };
+        let mut network = Network { kind, needs: vec![1; n], records, weights };
         if random.one_in(3) && !network.records.is_empty() {
             network.repeat(random);
         }
         let rows = network.rows();
-        let kind = random.below(4);
+        let needs = random.below(4);
         for (need, row) in network.needs.iter_mut().zip(&rows) {
             let highest = highest_need(row);
-            *need = match kind {
+            *need = match needs {
                 0 => 1,
                 1 => highest,
                 _ => 1 + random.below(highest.into()) as u8,
@@ -122,8 +152,16 @@ impl Network {
         self.needs[bus] = random.of(&[lowest, lowest, lowest, 24]);
     }
 
-    /// Lines between any buses, up to a number at each that is chosen at random. As of all lines
-    /// made here, the lower bus comes first, and no two join the same buses.
+    /// Two-way lines of n buses: the lower bus comes first, and no two join the same buses.
+    pub fn two_way_lines(n: usize, random: &mut Random) -> Vec<(u16, u16)> {
+        match random.below(10) {
+            0 if n > 24 => Self::dense_lines(n, random),
+            1..=3 if n > 23 => Self::star_lines(n, random),
+            _ => Self::any_lines(n, random),
+        }
+    }
+
+    /// Lines between any buses, up to a number at each that is chosen at random.
     fn any_lines(n: usize, random: &mut Random) -> Vec<(u16, u16)> {
         let most = random.of(&[0, 1, 2, 3, 5, 8, 22, 23, 23]);
         let tries = random.of(&[n / 2, n, 2 * n, n * most, 2 * n * most]);
@@ -166,20 +204,20 @@ impl Network {
         others.iter().map(|&other| (centre.min(other), centre.max(other))).collect()
     }
 
-    /// Names pairs again behind all others: any, those of one bus, one of them, or the only one
+    /// Names lines again behind all others: any, those of one bus, one of them, or the only one
     /// that is left; once or several times, and seldom until there are as many records as may be.
     fn repeat(&mut self, random: &mut Random) {
         let (a, b) = random.of(&self.records);
         let again = match random.below(6) {
             0 | 1 => self.records.clone(),
-            2 | 3 => self.records_of(a),
+            2 | 3 => self.records_of(b),
             4 => vec![(a, b)],
             _ => {
                 self.records = vec![(a, b)];
                 vec![(a, b)]
             }
         };
-        let most = MOST_RECORDS - self.records.len();
+        let most = self.kind.most_records() - self.records.len();
         let count = match random.below(100) {
             0 => most,
             1..=29 => again.len(),
@@ -190,15 +228,27 @@ impl Network {
         }
     }
 
-    /// The records that name a bus.
+    /// The records that give a bus a neighbour: those that name it, or that lead into it.
     fn records_of(&self, bus: u16) -> Vec<(u16, u16)> {
-        self.records.iter().copied().filter(|&(a, b)| a == bus || b == bus).collect()
+        let is_own = |&(a, b): &(u16, u16)| b == bus || (self.kind == Kind::TwoWay && a == bus);
+        self.records.iter().copied().filter(is_own).collect()
     }
 
-    /// Puts the records in the one order of files: the lower bus first, and ascending.
+    /// A record of the line from one bus to another; if lines run both ways, either comes first.
+    fn record(&self, from: u16, to: u16, random: &mut Random) -> (u16, u16) {
+        match self.kind {
+            Kind::TwoWay if random.one_in(2) => (to, from),
+            _ => (from, to),
+        }
+    }
+
+    /// Puts the records in the one order of files: ascending, and, if lines run both ways, the lower
+    /// bus first.
     fn ascend(&mut self) {
-        for record in &mut self.records {
-            *record = (record.0.min(record.1), record.0.max(record.1));
+        if self.kind == Kind::TwoWay {
+            for record in &mut self.records {
+                *record = (record.0.min(record.1), record.0.max(record.1));
+            }
         }
         self.records.sort_unstable();
     }
@@ -286,7 +336,7 @@ impl Network {
             // one record so often that there are as many as may be, or one more
             4 if random.one_in(20) => {
                 if let Some(&record) = self.records.get(at) {
-                    self.records.resize(MOST_RECORDS + random.below(2), record);
+                    self.records.resize(self.kind.most_records() + random.below(2), record);
                 }
             }
             // a bus with 24 neighbours
@@ -297,7 +347,8 @@ impl Network {
                 let again = self.records_of(bus);
                 for _ in again.len()..24 + random.below(3) {
                     if let Some(&(a, b)) = again.get(random.below(again.len())) {
-                        self.records.push(if random.one_in(2) { (a, b) } else { (b, a) });
+                        let record = self.record(a, b, random);
+                        self.records.push(record);
                     }
                 }
             }
@@ -305,7 +356,7 @@ impl Network {
         }
     }
 
-    /// Joins a bus to others until it has so many neighbours, or all that there are.
+    /// Joins others to a bus until it has so many neighbours, or all that there are.
     fn join(&mut self, bus: u16, neighbours: usize, random: &mut Random) {
         let own = self.records_of(bus);
         let joined = |other| own.contains(&(bus, other)) || own.contains(&(other, bus));
@@ -313,7 +364,8 @@ impl Network {
             .filter(|&other| other != bus)
             .partition(|&other| joined(other));
         for &other in new.iter().take(neighbours.saturating_sub(has.len())) {
-            self.records.push(if random.one_in(2) { (bus, other) } else { (other, bus) });
+            let record = self.record(other, bus, random);
+            self.records.push(record);
         }
     }
 
@@ -341,28 +393,53 @@ impl Network {
         file
     }
 
-    /// The network as it is written, if its records are in order: with one record for each pair,
+    /// The network of a file whose sections are sound.
+    pub fn of(kind: Kind, file: &[u8]) -> Self {
+        let (needs, records, behind) = parts(file).expect("its sections are sound");
+        let weights = behind.get(2..).map(numbers);
+        Network { kind, needs: needs.to_vec(), records, weights }
+    }
+
+    /// The network as it is written, if its records are in order: with one record for each line,
     /// and without weights that are all 1.
     pub fn as_written(&self) -> Self {
         let mut records = self.records.clone();
         records.dedup();
         let mut weights = self.weights.clone();
         weights.take_if(|weights| weights.iter().all(|&weight| weight == 1));
-        Network { needs: self.needs.clone(), records, weights }
+        Network { kind: self.kind, needs: self.needs.clone(), records, weights }
     }
 
-    /// The neighbours of each bus, ascending and each once.
+    /// One-way lines in both directions of each pair that two-way lines join, ascending.
+    pub fn in_both_directions(&self) -> Self {
+        let records = one_way::both_directions(&self.records);
+        let (needs, weights) = (self.needs.clone(), self.weights.clone());
+        let mut both = Network { kind: Kind::OneWay, needs, records, weights };
+        both.ascend();
+        both
+    }
+
+    /// The neighbours of each bus, or the buses that lead into it, ascending and each once.
     pub fn rows(&self) -> Vec<Vec<u16>> {
         let mut rows = vec![Vec::new(); self.needs.len()];
         for &(a, b) in &self.records {
-            rows[a as usize].push(b);
             rows[b as usize].push(a);
+            if self.kind == Kind::TwoWay {
+                rows[a as usize].push(b);
+            }
         }
         for row in &mut rows {
             row.sort_unstable();
             row.dedup();
         }
         rows
+    }
+
+    /// The need and the degree of each bus whose need cannot be met.
+    pub fn unmet(&self) -> Vec<(usize, usize)> {
+        let rows = self.rows();
+        let buses = self.needs.iter().zip(&rows).filter(|(&need, row)| need > highest_need(row));
+        buses.map(|(&need, row)| (need.into(), row.len())).collect()
     }
 }
 
@@ -372,8 +449,27 @@ pub fn highest_need(row: &[u16]) -> u8 {
     row.len().max(1) as u8
 }
 
+/// The numbers of two bytes that stand one behind another.
+pub fn numbers(bytes: &[u8]) -> Vec<u16> {
+    bytes.chunks_exact(2).map(|pair| u16::from_le_bytes([pair[0], pair[1]])).collect()
+}
+
+/// The needs, the records and what stands behind them.
+pub type Parts<'a> = (&'a [u8], Vec<(u16, u16)>, &'a [u8]);
+
+/// The parts of a file, if it has all of its records.
+pub fn parts(file: &[u8]) -> Option<Parts<'_>> {
+    let number = |at: usize| Some(numbers(file.get(at..at + 2)?)[0] as usize);
+    let n = number(0)?;
+    let end = 4 + n + 4 * number(2 + n)?;
+    let records = numbers(file.get(4 + n..end)?);
+    let records = records.chunks_exact(2).map(|ends| (ends[0], ends[1])).collect();
+    Some((&file[2..2 + n], records, &file[end..]))
+}
+
 /// Damages the bytes of a file.
-pub fn damage_file(file: &mut Vec<u8>, random: &mut Random) {
+pub fn damage_file(kind: Kind, file: &mut Vec<u8>, random: &mut Random) {
+    let most = kind.most_records() as u16;
     let at = random.below(file.len());
     let n = file.first_chunk().map_or(0, |&count| u16::from_le_bytes(count));
     match random.below(9) {
@@ -384,7 +480,7 @@ pub fn damage_file(file: &mut Vec<u8>, random: &mut Random) {
         4 => file.extend((0..=random.below(6)).map(|_| random.of(&[0, 1, 255]))),
         5 => recount(file, 0, random.of(&[n.wrapping_add(1), n.wrapping_sub(1)])),
         6 => recount(file, 0, random.of(&[0, 512, 513, 768, 0xFFFF])),
-        7 => recount(file, 2 + n as usize, random.of(&[5888, 5889, 0xFFFF])),
+        7 => recount(file, 2 + n as usize, random.of(&[most, most + 1, 0xFFFF])),
         _ => {
             let place = 2 + n as usize;
             if let Some(&[low, high]) = file.get(place..place + 2) {
@@ -471,7 +567,7 @@ pub fn damage_rows(rows: &mut [Vec<u16>], random: &mut Random) {
     let other = random.below(n);
     let at = random.below(rows[bus].len());
     match random.below(8) {
-        // a line in the row of one end only
+        // a line in the row of one end only, which is no fault if lines run one way
         0 if !rows[bus].is_empty() => drop(rows[bus].remove(at)),
         1 if bus != other && !rows[bus].contains(&(other as u16)) => {
             rows[bus].push(other as u16);

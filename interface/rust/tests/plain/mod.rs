@@ -1,7 +1,9 @@
-//! A second reading of the scope and of orders 1 to 7 in plain safe Rust, which shares nothing with
+//! A second reading of the scope and of orders 1 to 8 in plain safe Rust, which shares nothing with
 //! the library. Tests compare the library with it, and the benchmark measures against it. Refusals
-//! are their numbers.
+//! are their numbers. Lines run both ways here, and one way in `one_way`.
 #![allow(dead_code)] // each program that has this module uses a part of it
+
+pub mod one_way;
 
 // The scope's limits. They stand here a second time, so that a wrong limit of the library is seen.
 const MOST_BUSES: usize = 512;
@@ -12,70 +14,103 @@ const MOST_RECORDS: usize = MOST_BUSES * MOST_LINES_AT_BUS / 2;
 
 /// Reads a network file into `table`; gives the counts of buses and of different pairs.
 pub fn read(file: &[u8], table: &mut [u16]) -> Result<(usize, usize), u8> {
-    let mut rest = file;
-    let n = number(&mut rest)? as usize;
-    if n == 0 || n > MOST_BUSES {
-        return Err(2);
-    }
-    let needs = bytes(&mut rest, n)?;
-    if needs.iter().any(|&need| !is_need(need.into())) {
-        return Err(3);
-    }
-    let count = number(&mut rest)? as usize;
-    if count > MOST_RECORDS {
-        return Err(4);
-    }
-    let records = bytes(&mut rest, 4 * count)?;
-    let weights = weights(rest, n)?;
-
-    let mut lines = Vec::with_capacity(count);
-    for record in records.chunks_exact(4) {
-        let a = u16::from_le_bytes([record[0], record[1]]);
-        let b = u16::from_le_bytes([record[2], record[3]]);
-        if a as usize >= n || b as usize >= n || a == b {
-            return Err(6);
-        }
-        lines.push((a, b));
-    }
-    // pairs compare by their first number, then by their second
-    if lines.iter().any(|&(a, b)| a > b) || lines.windows(2).any(|two| two[1] < two[0]) {
+    let file = File::of(file, MOST_RECORDS)?;
+    let lines = file.lines()?;
+    if lines.iter().any(|&(a, b)| a > b) || has_fall(&lines) {
         return Err(15);
     }
-    let mut rows = vec![Vec::new(); n];
+    let mut rows = vec![Vec::new(); file.n];
     for &(a, b) in &lines {
         rows[a as usize].push(b);
         rows[b as usize].push(a);
     }
-    // parallel circuits: a pair that is named again counts once
-    for row in &mut rows {
-        row.sort_unstable();
-        row.dedup();
-    }
-    if rows.iter().any(|row| row.len() > MOST_LINES_AT_BUS) {
-        return Err(7);
-    }
-    if needs.iter().zip(&rows).any(|(&need, row)| cannot_be_met(need.into(), row.len())) {
-        return Err(17);
+    let entries = file.store(rows, table)?;
+    Ok((file.n, entries / 2))
+}
+
+/// The sections of a file, which are sound each by itself.
+struct File<'a> {
+    n: usize,
+    needs: &'a [u8],
+    records: &'a [u8],
+    weights: Vec<u16>,
+}
+
+impl<'a> File<'a> {
+    /// Divides a file that may have so many records into its sections.
+    fn of(file: &'a [u8], most_records: usize) -> Result<Self, u8> {
+        let mut rest = file;
+        let n = number(&mut rest)? as usize;
+        if n == 0 || n > MOST_BUSES {
+            return Err(2);
+        }
+        let needs = bytes(&mut rest, n)?;
+        if needs.iter().any(|&need| !is_need(need.into())) {
+            return Err(3);
+        }
+        let count = number(&mut rest)? as usize;
+        if count > most_records {
+            return Err(4);
+        }
+        let records = bytes(&mut rest, 4 * count)?;
+        let weights = weights(rest, n)?;
+        Ok(File { n, needs, records, weights })
     }
 
-    let m = rows.iter().map(Vec::len).sum::<usize>() / 2;
-    if table.len() < 3 * n + 2 + 2 * m {
-        return Err(10);
+    /// The two buses of each record.
+    fn lines(&self) -> Result<Vec<(u16, u16)>, u8> {
+        let mut lines = Vec::with_capacity(self.records.len() / 4);
+        for record in self.records.chunks_exact(4) {
+            let a = u16::from_le_bytes([record[0], record[1]]);
+            let b = u16::from_le_bytes([record[2], record[3]]);
+            if a as usize >= self.n || b as usize >= self.n || a == b {
+                return Err(6);
+            }
+            lines.push((a, b));
+        }
+        Ok(lines)
     }
-    table[0] = n as u16;
-    for (entry, &need) in table[1..].iter_mut().zip(needs) {
-        *entry = need.into();
+
+    /// Stores the table with these rows, in which one bus may stand several times and counts once;
+    /// gives the entries of all rows.
+    fn store(&self, mut rows: Vec<Vec<u16>>, table: &mut [u16]) -> Result<usize, u8> {
+        let n = self.n;
+        for row in &mut rows {
+            row.sort_unstable();
+            row.dedup();
+        }
+        if rows.iter().any(|row| row.len() > MOST_LINES_AT_BUS) {
+            return Err(7);
+        }
+        if self.needs.iter().zip(&rows).any(|(&need, row)| cannot_be_met(need.into(), row.len())) {
+            return Err(17);
+        }
+
+        let entries = rows.iter().map(Vec::len).sum();
+        if table.len() < 3 * n + 2 + entries {
+            return Err(10);
+        }
+        table[0] = n as u16;
+        for (entry, &need) in table[1..].iter_mut().zip(self.needs) {
+            *entry = need.into();
+        }
+        table[1 + n..1 + 2 * n].copy_from_slice(&self.weights);
+        let (starts, links) = table[1 + 2 * n..].split_at_mut(n + 1);
+        let mut start = 0;
+        for (bus, row) in rows.iter().enumerate() {
+            starts[bus] = start as u16;
+            links[start..start + row.len()].copy_from_slice(row);
+            start += row.len();
+        }
+        starts[n] = start as u16;
+        Ok(entries)
     }
-    table[1 + n..1 + 2 * n].copy_from_slice(&weights);
-    let (starts, links) = table[1 + 2 * n..].split_at_mut(n + 1);
-    let mut start = 0;
-    for (bus, row) in rows.iter().enumerate() {
-        starts[bus] = start as u16;
-        links[start..start + row.len()].copy_from_slice(row);
-        start += row.len();
-    }
-    starts[n] = start as u16;
-    Ok((n, m))
+}
+
+/// Whether a record is below the one before it. Pairs compare by their first number, then by their
+/// second.
+fn has_fall(lines: &[(u16, u16)]) -> bool {
+    lines.windows(2).any(|two| two[1] < two[0])
 }
 
 /// The weights that stand behind the records: one for each of n buses behind their count, or 1 for
@@ -122,7 +157,7 @@ fn is_weight(weight: u16) -> bool {
     (1..=MOST_WEIGHT).contains(&weight)
 }
 
-/// A need that exceeds its bus's degree cannot be met; but a bus without lines may have need 1.
+/// A need that exceeds its bus's degree cannot be met; but a bus of degree 0 may have need 1.
 fn cannot_be_met(need: u16, degree: usize) -> bool {
     let may_stand = degree == 0 && need == 1;
     usize::from(need) > degree && !may_stand
@@ -138,9 +173,9 @@ struct Network<'a> {
 }
 
 impl<'a> Network<'a> {
-    /// The network that a table holds, or refusal 11.
+    /// The network that a table of two-way lines holds, or refusal 11.
     fn of(table: &'a [u16]) -> Result<Self, u8> {
-        Self::sections(table).filter(Self::is_sound).ok_or(11)
+        Self::sections(table).filter(|it| it.is_sound() && it.is_mirrored()).ok_or(11)
     }
 
     /// Divides a table into its sections, if it is long enough for them and its starts never fall.
@@ -159,6 +194,7 @@ impl<'a> Network<'a> {
         Some(Network { n, needs, weights, starts, links })
     }
 
+    /// Whether needs, weights and rows are sound, each by itself.
     fn is_sound(&self) -> bool {
         self.needs.iter().all(|&need| is_need(need))
             && self.weights.iter().all(|&weight| is_weight(weight))
@@ -169,11 +205,16 @@ impl<'a> Network<'a> {
                     && row.windows(2).all(|pair| pair[0] < pair[1])
                     && row.iter().all(|&other| (other as usize) < self.n && other as usize != bus)
             })
-            && (0..self.n).all(|bus| {
-                let is_named_by =
-                    |&other: &u16| self.row(other as usize).binary_search(&(bus as u16)).is_ok();
-                self.row(bus).iter().all(is_named_by)
-            })
+    }
+
+    /// Whether each bus is named by those that it names.
+    fn is_mirrored(&self) -> bool {
+        (0..self.n).all(|bus| self.row(bus).iter().all(|&other| self.names(other.into(), bus)))
+    }
+
+    /// Whether a bus stands in the row of another.
+    fn names(&self, row: usize, bus: usize) -> bool {
+        self.row(row).binary_search(&(bus as u16)).is_ok()
     }
 
     fn row(&self, bus: usize) -> &'a [u16] {
@@ -226,7 +267,8 @@ impl<'a> Network<'a> {
         u64::from(self.weights[bus]) * term
     }
 
-    /// What each neighbour of a bus gets for seeing it, times l. The bus that is seen has the weight.
+    /// What each bus that sees a bus, of those in its row, gets for that, times l. The bus that is
+    /// seen has the weight.
     fn neighbour_term(&self, bus: usize, l: u64) -> u64 {
         let (k, d) = self.need_and_degree(bus);
         let term = if k <= d { (d + 1 - k) * l / (d * (d + 1)) } else { 0 };
@@ -245,14 +287,31 @@ impl<'a> Network<'a> {
         (0..self.n).map(|bus| self.own_term(bus, l) + sum(bus)).collect()
     }
 
-    fn heading(&self, l: u64) -> String {
-        format!("buses {} lines {} over {l}\n", self.n, self.links.len() / 2)
+    fn heading(&self, lines: usize, l: u64) -> String {
+        format!("buses {} lines {lines} over {l}\n", self.n)
     }
 
     fn line(&self, bus: usize, numerator: u64, l: u64) -> String {
         let (need, degree) = self.need_and_degree(bus);
         let by = divisor(numerator, l);
         format!("{bus} {need} {degree} {numerator} {}/{}\n", numerator / by, l / by)
+    }
+
+    /// The network file with these records.
+    fn file(&self, records: &[(u16, u16)]) -> Vec<u8> {
+        let mut content = (self.n as u16).to_le_bytes().to_vec();
+        content.extend(self.needs.iter().map(|&need| need as u8));
+        content.extend((records.len() as u16).to_le_bytes());
+        for (a, b) in records {
+            content.extend(a.to_le_bytes());
+            content.extend(b.to_le_bytes());
+        }
+        // a section of all ones is left out
+        if self.weights.iter().any(|&weight| weight != 1) {
+            content.extend((self.n as u16).to_le_bytes());
+            content.extend(self.weights.iter().flat_map(|weight| weight.to_le_bytes()));
+        }
+        content
     }
 }
 
@@ -267,20 +326,7 @@ fn divisor(mut a: u64, mut b: u64) -> u64 {
 /// Writes the network file of a table into `file`; gives its bytes.
 pub fn write(table: &[u16], file: &mut [u8]) -> Result<usize, u8> {
     let network = Network::of(table)?;
-    let pairs = network.pairs();
-
-    let mut content = (network.n as u16).to_le_bytes().to_vec();
-    content.extend(network.needs.iter().map(|&need| need as u8));
-    content.extend((pairs.len() as u16).to_le_bytes());
-    for (a, b) in pairs {
-        content.extend(a.to_le_bytes());
-        content.extend(b.to_le_bytes());
-    }
-    // a section of all ones is left out
-    if network.weights.iter().any(|&weight| weight != 1) {
-        content.extend((network.n as u16).to_le_bytes());
-        content.extend(network.weights.iter().flat_map(|weight| weight.to_le_bytes()));
-    }
+    let content = network.file(&network.pairs());
     put(&content, file).ok_or(16)
 }
 
@@ -351,7 +397,7 @@ pub fn sheet_line(table: &[u16], line: usize, text: &mut [u8]) -> Result<usize, 
     }
     let l = network.denominator();
     let content = match line.checked_sub(1) {
-        None => network.heading(l),
+        None => network.heading(network.links.len() / 2, l),
         Some(bus) => network.line(bus, network.numerator(bus, l), l),
     };
     put(content.as_bytes(), text).ok_or(14)
@@ -361,7 +407,7 @@ pub fn sheet_line(table: &[u16], line: usize, text: &mut [u8]) -> Result<usize, 
 pub fn whole_sheet(table: &[u16], text: &mut [u8]) -> Result<usize, u8> {
     let network = Network::of(table)?;
     let l = network.denominator();
-    let mut sheet = network.heading(l);
+    let mut sheet = network.heading(network.links.len() / 2, l);
     for (bus, &numerator) in network.numerators(l).iter().enumerate() {
         sheet += &network.line(bus, numerator, l);
     }

@@ -9,7 +9,7 @@ use Rattle.lists.proofs.Tests.{fails}
 use borrow.Author.Count.{below_more}
 use native.Mathlib.Nat.{not-suc-le-zero}
 use Rattle.table_spec.specs.Limits.{max_buses}
-use Rattle.table_spec.proofs.Facts.{mirrored_facts, mirrored_test}
+use Rattle.table_spec.proofs.Facts.{mirrored_facts, mirrored-test}
 use Rattle.table_spec.proofs.Rows.{row_lies}
 use Rattle.table_spec.specs.Holds.{Mirrored}
 use Rattle.table_spec.specs.Layout.{row_at}
@@ -61,7 +61,7 @@ loop-again c =
     )
 
 returns_2 : tie.Need-returns-2 invariant-loop decreases-loop
-returns_2 c = sym (mirrored_test _ _ _ (all-answered _ _ _ (λ i b. c.before.loop.invariant.1 i (omega arith))))
+returns_2 c = sym (mirrored-test _ _ _ (all-answered _ _ _ (λ i b. c.before.loop.invariant.1 i (omega arith))))
 
 pub mirrored-spec : {M : Type 1} → statement M
 mirrored-spec =

@@ -1,0 +1,49 @@
+-- `file_sections::some_fall` meets its contract. The loop's invariant: no record passed falls.
+use borrow.Author.Rules.{rules}
+use mathlib.Core.Bool.{false}
+use mathlib.Core.Path.{◌≡◌, sym, ◌∙◌}
+use Prim.Native.Nat.{◌-◌, ◌≤◌}
+use Rattle.lists.proofs.Loops.{by_end, any_below_start, any_below_by, any_below_more}
+use Rattle.file_spec.specs.FileBytes.{ends_in}
+use Rattle.file_spec.specs.RecordOrder.{some_fall}
+use Rattle.file_sections.proofs.some_fall.Statement.{statement}
+use Rattle.file_sections.proofs.some_fall.Tie as tie
+
+abbrev invariant-loop : tie.invariant-loop
+invariant-loop r m k₀ k = (k ≤ m) × (some_fall k (ends_in r) ≡ false)
+
+abbrev decreases-loop : tie.decreases-loop
+decreases-loop r m k₀ k = m - k
+
+loop-holds : tie.Need-loop-init invariant-loop decreases-loop
+unfolding some_fall
+loop-holds c = (search rules, any_below_start _)
+
+returns : tie.Need-returns invariant-loop decreases-loop
+unfolding some_fall
+returns c = sym (any_below_by _ _ _ c.before.before.before.loop-test.true (sym c.before.falls.ensures ∙ c.if1.true))
+
+loop-again : tie.Need-loop-preserved invariant-loop decreases-loop
+unfolding some_fall
+loop-again c = (
+  search rules,
+  any_below_more _ _ c.before.before.before.before.loop.invariant.1 (sym c.before.falls.ensures ∙ c.if1.false),
+)
+
+returns_2 : tie.Need-returns-2 invariant-loop decreases-loop
+returns_2 c = sym (by_end (λ k. some_fall k (ends_in c.before.before.before.args.section.now) ≡ false) c.before.loop.invariant.1 c.before.loop.invariant.0 c.loop-test.false)
+
+pub some-fall-spec : {M : Type 1} → statement M
+some-fall-spec =
+    tie.close
+    (tie.spec
+    invariant-loop
+    decreases-loop
+    loop-holds
+    (λ c κs. search rules)
+    (λ c κs. search rules)
+    returns
+    (λ c. search rules)
+    (λ c. search rules)
+    loop-again
+    returns_2)

@@ -1,0 +1,2 @@
+pub mod BothDirections
+pub mod OneWayStored

@@ -1,0 +1,1 @@
+// What the file writer answers and writes: definitions and laws, no code.

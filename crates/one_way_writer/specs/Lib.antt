@@ -1,0 +1,2 @@
+-- What work functions of the writer ask for.
+pub mod WriterWork
