@@ -1,9 +1,8 @@
 -- The first cause decides, and what answers stand for, computed.
-use Rattle.std.specs.Prelude.{true, false, [], ◌∷◌, ◌≡◌, refl, ℕ}
+use Rattle.std.specs.Prelude.{true, false, [], ◌∷◌, ◌≡◌, refl, ℕ, Result, Ok, Err}
+use Rattle.refusals.specs.declared.Refusal.{Refusal}
 use Rattle.refusals.specs.declared.Refusal.TheVariants.{NoNetwork, NoSuchBus, TextTooShort}
-use Rattle.refusals.specs.declared.Written.TheVariants.{Bytes, Refused}
-use Rattle.refusals.specs.Outcomes.{gives, refuses, ◌⇒◌, outcome}
-use Rattle.refusals.specs.WrittenAnswer.{outcome_of_written}
+use Rattle.refusals.specs.Outcomes.{gives, refuses, outcome_of, ◌⇒◌, outcome}
 
 none-holds : outcome {A = ℕ} ((false ⇒ NoNetwork) ∷ (false ⇒ NoSuchBus) ∷ []) 7 ≡ gives 7
 none-holds = refl
@@ -14,5 +13,11 @@ first_of_two = refl
 earlier_wins : outcome {A = ℕ} ((true ⇒ NoNetwork) ∷ (true ⇒ NoSuchBus) ∷ []) 7 ≡ refuses 11
 earlier_wins = refl
 
-bytes_written : (outcome_of_written (Bytes 7) ≡ gives 7) × (outcome_of_written (Refused TextTooShort) ≡ refuses 14)
+abbrev written : Result ℕ Refusal
+written = Ok 7
+
+abbrev refused : Result ℕ Refusal
+refused = Err TextTooShort
+
+bytes_written : (outcome_of written ≡ gives 7) × (outcome_of refused ≡ refuses 14)
 bytes_written = (refl, refl)

@@ -1,7 +1,6 @@
 -- Refusals: definitions and computed examples.
 pub mod Numbers
 pub mod Outcomes
-pub mod WrittenAnswer
 pub mod Examples
 pub mod Causes
 pub mod Due

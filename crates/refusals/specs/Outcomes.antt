@@ -1,6 +1,6 @@
 -- What a call gives: its values, or the number of the first cause that holds, in the order in which the scope lists a call's causes.
 -- Definitions only.
-use Rattle.std.specs.Prelude.{Bool, cond, List, [], ◌∷◌, ℕ}
+use Rattle.std.specs.Prelude.{Bool, cond, List, [], ◌∷◌, ℕ, Result, Ok, Err}
 use Rattle.refusals.specs.declared.Refusal.{Refusal}
 use Rattle.refusals.specs.Numbers.{number_of}
 
@@ -8,6 +8,11 @@ use Rattle.refusals.specs.Numbers.{number_of}
 pub data Outcome (A : Type 0) : Type 0 where
   gives : A → Outcome A
   refuses : ℕ → Outcome A
+
+-- the outcome that an answer stands for: its values, or the number of its refusal
+abbrev pub outcome_of : {A : Type 0} → Result A Refusal → Outcome A
+outcome_of (Ok values) = gives values
+outcome_of (Err refusal) = refuses (number_of refusal)
 
 -- a test, and the refusal that it is the cause of
 pub record Cause : Type 0 where

@@ -7,50 +7,43 @@ ghost use Rattle.refusals.specs.Numbers.{number_of};
 #[derive(Clone, Copy)]
 pub enum Refusal {
     // The file ends inside a count or section.
-    FileTooShort,
+    FileTooShort = 1,
     // The bus count is 0 or above the limit.
-    BusCount,
+    BusCount = 2,
     // A need is 0 or above the limit.
-    Need,
+    Need = 3,
     // The line count is above the limit.
-    LineCount,
+    LineCount = 4,
     // Bytes follow the last weight.
-    FileTooLong,
+    FileTooLong = 5,
     // A record names a bus that the network does not have, or one bus twice.
-    LineEnds,
+    LineEnds = 6,
     // A bus has more different neighbours than it may have lines.
-    DegreeTooHigh,
+    DegreeTooHigh = 7,
     // Cancel is given denominator 0.
-    NoDenominator,
+    NoDenominator = 9,
     // Too few entries are lent for the line table.
-    TableTooShort,
+    TableTooShort = 10,
     // The slice holds no network.
-    NoNetwork,
+    NoNetwork = 11,
     // Too few entries are lent for the numerators, or for the changes.
-    NumeratorsTooShort,
+    NumeratorsTooShort = 12,
     // The network does not have the bus, or the sheet does not have the line.
-    NoSuchBus,
+    NoSuchBus = 13,
     // Too few bytes are lent for the sheet line.
-    TextTooShort,
+    TextTooShort = 14,
     // A record names its higher bus first, or is below the record before it.
-    OutOfOrder,
+    OutOfOrder = 15,
     // Too few bytes are lent for the network file.
-    BytesTooShort,
+    BytesTooShort = 16,
     // A need exceeds its bus's degree, apart from need 1 at a bus without lines.
-    NeedAboveDegree,
+    NeedAboveDegree = 17,
     // The network does not have the line.
-    NoSuchLine,
+    NoSuchLine = 18,
     // The weight count is not the bus count.
-    WeightCount,
+    WeightCount = 19,
     // A weight is 0 or above the limit.
-    Weight,
-}
-
-// How many bytes a call wrote at the front of those lent, or why none.
-#[derive(Clone, Copy)]
-pub enum Written {
-    Bytes(usize),
-    Refused(Refusal),
+    Weight = 20,
 }
 
 impl Refusal {
@@ -58,26 +51,6 @@ impl Refusal {
     pub fn number(self) -> u8
         ensures { result ≡ number_of self }
     {
-        match self {
-            Refusal::FileTooShort => 1,
-            Refusal::BusCount => 2,
-            Refusal::Need => 3,
-            Refusal::LineCount => 4,
-            Refusal::FileTooLong => 5,
-            Refusal::LineEnds => 6,
-            Refusal::DegreeTooHigh => 7,
-            Refusal::NoDenominator => 9,
-            Refusal::TableTooShort => 10,
-            Refusal::NoNetwork => 11,
-            Refusal::NumeratorsTooShort => 12,
-            Refusal::NoSuchBus => 13,
-            Refusal::TextTooShort => 14,
-            Refusal::OutOfOrder => 15,
-            Refusal::BytesTooShort => 16,
-            Refusal::NeedAboveDegree => 17,
-            Refusal::NoSuchLine => 18,
-            Refusal::WeightCount => 19,
-            Refusal::Weight => 20,
-        }
+        self as u8
     }
 }
