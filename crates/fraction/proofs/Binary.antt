@@ -26,7 +26,7 @@ step_le a b {r = r} i h p = record {
 }
 
 -- an iteration: the smaller stays, and the gap without its twos takes the larger's place
-pub step : {g a b d m r : ℕ} → Odds g a b → d ≡ (b - a) + (a - b) → OddPart d r → m ≡ min a b → Odds g m r
+pub step : {g a b d m r : ℕ} → Odds g a b → d ≡ (a - b) + (b - a) → OddPart d r → m ≡ min a b → Odds g m r
 step {g} {a} {b} {d} {m} {r} i e p f = go (dec_le a b)
   where
     flip : Odds g b a

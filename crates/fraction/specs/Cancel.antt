@@ -1,17 +1,16 @@
 -- Cancelling a fraction: the outcome that an answer of `cancel` stands for, which one is due, and the rule that it obeys.
 -- Definitions only.
-use Rattle.std.specs.Prelude.{[], ◌∷◌, ◌≡◌, ℕ, ◌*◌, ◌/◌, ◌<◌, eqb}
+use Rattle.std.specs.Prelude.{[], ◌∷◌, ◌≡◌, ℕ, ◌*◌, ◌/◌, ◌<◌, eqb, Result}
 use Rattle.refusals.specs.declared.Refusal.TheVariants.{NoDenominator}
-use Rattle.refusals.specs.Numbers.{number_of}
-use Rattle.refusals.specs.Outcomes.{Outcome, gives, refuses, ◌⇒◌, outcome}
-use Rattle.fraction.specs.declared.Cancelled.{Cancelled}
-use Rattle.fraction.specs.declared.Cancelled.TheVariants.{Pair, Refused}
+use Rattle.refusals.specs.declared.Refusal.{Refusal}
+use Rattle.refusals.specs.Outcomes.{Outcome, gives, refuses, outcome_of, ◌⇒◌, outcome}
+use Rattle.refusals.specs.Causes.{part_of}
+use Rattle.fraction.specs.declared.Lowest.{Lowest}
 use Rattle.fraction.specs.Divisors.{IsGcd, gcd_of}
 
--- the values of an answer, or the scope's number of the refusal
-abbrev pub outcome_of_cancelled : Cancelled → Outcome (ℕ × ℕ)
-outcome_of_cancelled (Pair p q) = gives (p, q)
-outcome_of_cancelled (Refused r) = refuses (number_of r)
+-- the outcome that an answer of `cancel` stands for: the fraction's two numbers, or the refusal's number
+abbrev pub outcome_of_cancelled : Result Lowest Refusal → Outcome (ℕ × ℕ)
+outcome_of_cancelled answer = part_of (λ (f : Lowest). (f.top, f.bottom)) (outcome_of answer)
 
 -- both numbers divided by their greatest common divisor
 abbrev pub cancelled : ℕ → ℕ → ℕ × ℕ

@@ -8,13 +8,6 @@ ghost use Rattle.fraction.specs.Odd.{OddPart};
 
 use refusals::Refusal;
 
-// Numerator and denominator in lowest terms, or why there is no such pair.
-#[derive(Clone, Copy)]
-pub enum Cancelled {
-    Pair(u64, u64),
-    Refused(Refusal),
-}
-
 // A fraction in lowest terms.
 #[derive(Clone, Copy)]
 pub struct Lowest {
@@ -27,19 +20,7 @@ fn odd_part(x: u64) -> u64
     requires { 0 < x }
     ensures { OddPart x result }
 {
-    x >> u64::trailing_zeros(x)
-}
-
-fn least(a: u64, b: u64) -> u64
-    ensures { result ≡ min a b }
-{
-    if a < b { a } else { b }
-}
-
-fn gap(a: u64, b: u64) -> u64
-    ensures { result ≡ (b - a) + (a - b) }
-{
-    if a < b { b - a } else { a - b }
+    x >> x.trailing_zeros()
 }
 
 // The greatest common divisor by the binary rule: that of the odd parts, times the twos that x and y share.
@@ -53,15 +34,15 @@ pub fn gcd(x: u64, y: u64) -> u64
     if y == 0 {
         return x;
     }
-    let twos = least(u64::trailing_zeros(x) as u64, u64::trailing_zeros(y) as u64);
+    let twos = x.trailing_zeros().min(y.trailing_zeros());
     let mut a = odd_part(x);
     let mut b = odd_part(y);
     loop {
         if a == b {
             break a << twos;
         }
-        let rest = odd_part(gap(a, b));
-        a = least(a, b);
+        let rest = odd_part(a.abs_diff(b));
+        a = a.min(b);
         b = rest;
     }
 }
@@ -78,16 +59,15 @@ pub fn reduce(numerator: u64, denominator: u64) -> Lowest
     }
 }
 
-// The fraction in lowest terms.
-pub fn cancel(numerator: u64, denominator: u64) -> Cancelled
+// The fraction in lowest terms, or why there is none.
+pub fn cancel(numerator: u64, denominator: u64) -> Result<Lowest, Refusal>
     ensures answer { outcome_of_cancelled result ≡ cancel_outcome numerator denominator }
     ensures rule { CancelRule numerator denominator (outcome_of_cancelled result) }
 {
     if denominator == 0 {
-        return Cancelled::Refused(Refusal::NoDenominator);
+        return Err(Refusal::NoDenominator);
     }
-    let lowest = reduce(numerator, denominator);
-    Cancelled::Pair(lowest.top, lowest.bottom)
+    Ok(reduce(numerator, denominator))
 }
 
 // The least common multiple, where it fits; no step exceeds it. A step of Euclid's rule makes a small number quick to fold into a large one.

@@ -9,10 +9,10 @@ pub returns-then-denominator-eq0-clause-answer : goal.returns-then-denominator-e
 returns-then-denominator-eq0-clause-answer c = sym (cancel_refused _ (omega arith))
 
 pub returns-clause-answer : goal.returns-clause-answer
-returns-clause-answer c = sym (cancel_divided _ _ (omega arith) ∙ ap gives (sym c.reduce-lowest.ensures))
+returns-clause-answer c = sym (cancel_divided _ _ (omega arith) ∙ ap gives (sym c.reduce.ensures))
 
 pub returns-clause-rule : goal.returns-clause-rule
 returns-clause-rule c =
     let a = c.args.numerator in
     let b = c.args.denominator in
-    subst (CancelRule a b) (cancel_divided a b (omega arith) ∙ ap gives (sym c.reduce-lowest.ensures)) (cancel_rule a b)
+    subst (CancelRule a b) (cancel_divided a b (omega arith) ∙ ap gives (sym c.reduce.ensures)) (cancel_rule a b)
