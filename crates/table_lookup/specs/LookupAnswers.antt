@@ -1,19 +1,11 @@
--- The outcomes that answers of Degree and of a row's place stand for.
+-- The outcome that an answer on a row's place stands for.
 -- Definitions only.
-use Rattle.std.specs.Prelude.{ℕ}
-use Rattle.refusals.specs.Numbers.{number_of}
-use Rattle.refusals.specs.Outcomes.{Outcome, gives, refuses}
-use Rattle.table_lookup.specs.declared.BusDegree.{BusDegree}
-use Rattle.table_lookup.specs.declared.BusDegree.TheVariants as degree
+use Rattle.std.specs.Prelude.{ℕ, Result}
+use Rattle.refusals.specs.declared.Refusal.{Refusal}
+use Rattle.refusals.specs.Outcomes.{Outcome, outcome_of}
+use Rattle.refusals.specs.Causes.{part_of}
 use Rattle.table_lookup.specs.declared.RowPlace.{RowPlace}
-use Rattle.table_lookup.specs.declared.RowPlace.TheVariants as place
 
--- the value, or the scope's number of the refusal
-abbrev pub outcome_of_degree : BusDegree → Outcome ℕ
-outcome_of_degree (degree.Is d) = gives d
-outcome_of_degree (degree.Refused r) = refuses (number_of r)
-
--- where the row begins and how many entries it has, or the scope's number of the refusal
-abbrev pub outcome_of_place : RowPlace → Outcome (ℕ × ℕ)
-outcome_of_place (place.At start many) = gives (start, many)
-outcome_of_place (place.Refused r) = refuses (number_of r)
+-- where the row begins and how many entries it has, or the refusal's number
+abbrev pub outcome_of_place : Result RowPlace Refusal → Outcome (ℕ × ℕ)
+outcome_of_place answer = part_of (λ (p : RowPlace). (p.start, p.entries)) (outcome_of answer)

@@ -2,49 +2,43 @@
 #![tactic(auto)]
 
 ghost use Rattle.std.specs.Prelude.{◌≡◌, ◌+◌, ◌*◌, ◌≤◌, length, take, drop};
+ghost use Rattle.refusals.specs.Outcomes.{outcome_of};
 ghost use Rattle.table_spec.specs.TableOutcomes.{degree_outcome, row_outcome, row_before, row_place_outcome, RowStands};
-ghost use Rattle.table_lookup.specs.LookupAnswers.{outcome_of_degree, outcome_of_place};
+ghost use Rattle.table_lookup.specs.LookupAnswers.{outcome_of_place};
 
 pub use network::Refusal;
 use network::table::{bus_count, neighbours, row_start};
 use table_check::holds;
 
-// How many neighbours a bus has, or why that is refused.
+// Where a bus's row begins in the lent table, and how many entries it has.
 #[derive(Clone, Copy)]
-pub enum BusDegree {
-    Is(usize),
-    Refused(Refusal),
-}
-
-// Where a bus's row begins in the lent table, and how many entries it has, or why that is refused.
-#[derive(Clone, Copy)]
-pub enum RowPlace {
-    At(usize, usize),
-    Refused(Refusal),
+pub struct RowPlace {
+    pub start: usize,
+    pub entries: usize,
 }
 
 // Where the row of a bus stands in the lent table.
-pub fn row_place(table: &[u16], bus: usize) -> RowPlace
+pub fn row_place(table: &[u16], bus: usize) -> Result<RowPlace, Refusal>
     ensures answer { outcome_of_place result ≡ row_place_outcome table.now bus }
     ensures stands { RowStands table.now bus (outcome_of_place result) }
 {
     if !holds(table) {
-        return RowPlace::Refused(Refusal::NoNetwork);
+        return Err(Refusal::NoNetwork);
     }
     if bus_count(table) <= bus {
-        return RowPlace::Refused(Refusal::NoSuchBus);
+        return Err(Refusal::NoSuchBus);
     }
-    RowPlace::At(row_start(table, bus), neighbours(table, bus).len())
+    Ok(RowPlace {
+        start: row_start(table, bus),
+        entries: neighbours(table, bus).len(),
+    })
 }
 
 // How many neighbours a bus of the lent table has.
-pub fn degree(table: &[u16], bus: usize) -> BusDegree
-    ensures { outcome_of_degree result ≡ degree_outcome table.now bus }
+pub fn degree(table: &[u16], bus: usize) -> Result<usize, Refusal>
+    ensures { outcome_of result ≡ degree_outcome table.now bus }
 {
-    match row_place(table, bus) {
-        RowPlace::Refused(cause) => BusDegree::Refused(cause),
-        RowPlace::At(_, entries) => BusDegree::Is(entries),
-    }
+    Ok(row_place(table, bus)?.entries)
 }
 
 // The part of a slice that has so many entries from a start on.
@@ -63,7 +57,7 @@ pub fn row(table: &[u16], bus: usize) -> &[u16]
     ensures place { (result.ref_ptr.0 ≡ table.entry.ref_ptr.0) × (result.ref_ptr.1 ≡ table.entry.ref_ptr.1 + row_before table.now bus * 2) }
 {
     match row_place(table, bus) {
-        RowPlace::Refused(_) => part(table, 0, 0),
-        RowPlace::At(start, entries) => part(table, start, entries),
+        Ok(place) => part(table, place.start, place.entries),
+        Err(_) => part(table, 0, 0),
     }
 }
