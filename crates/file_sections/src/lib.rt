@@ -3,31 +3,16 @@
 
 ghost use Rattle.std.specs.Prelude.{◌||◌, ◌++◌, ◌≡◌, ◌+◌, ◌*◌, ◌≤◌, ◌<◌, length};
 ghost use Rattle.lists.specs.Below.{map_below};
-ghost use Rattle.refusals.specs.Outcomes.{outcome};
+ghost use Rattle.refusals.specs.Outcomes.{outcome, outcome_of};
 ghost use Rattle.table_spec.specs.Limits.{max_buses, max_lines};
 ghost use Rattle.table_spec.specs.Holds.{needs_in_range, weights_in_range};
 ghost use Rattle.file_spec.specs.FileBytes.{word_at, file_bus_count, needs_end, need_bytes, file_line_count, records_end, records, first_end, second_end, file_weight_count, weight_bytes, weight_in};
 ghost use Rattle.file_spec.specs.Sections.{bus_section_causes, line_count_causes, missing_causes, weight_section_causes, end_causes, line_section_causes, counts, sections_outcome, two_buses, sound_ends};
 ghost use Rattle.file_spec.specs.SoundSections.{SoundSections};
 ghost use Rattle.file_spec.specs.RecordOrder.{turned, falls, out_of_order};
-ghost use Rattle.file_sections.specs.FileAnswers.{outcome_of_count, outcome_of_reading};
 
 pub use network::{Counts, Refusal};
 use network::{Network, within};
-
-// A count of a file, or why the file is refused.
-#[derive(Clone, Copy)]
-pub enum Counted {
-    Is(usize),
-    Refused(Refusal),
-}
-
-// The counts of a file's network, or why the file is refused.
-#[derive(Clone, Copy)]
-pub enum Reading {
-    Accepted(Counts),
-    Refused(Refusal),
-}
 
 // The two bus numbers of a record.
 #[derive(Clone, Copy)]
@@ -103,51 +88,51 @@ fn needs_in_range(needs: &[u8]) -> bool
 }
 
 // The bus count of a file, if that and the needs are sound.
-pub fn bus_section(file: &[u8]) -> Counted
-    ensures { outcome_of_count result ≡ outcome (bus_section_causes file.now) (file_bus_count file.now) }
+pub fn bus_section(file: &[u8]) -> Result<usize, Refusal>
+    ensures { outcome_of result ≡ outcome (bus_section_causes file.now) (file_bus_count file.now) }
 {
     if file.len() < 2 {
-        return Counted::Refused(Refusal::FileTooShort);
+        return Err(Refusal::FileTooShort);
     }
     let n = word(file, 0);
     if !within(1, Network::BUSES, n) {
-        return Counted::Refused(Refusal::BusCount);
+        return Err(Refusal::BusCount);
     }
     if file.len() < 2 + n {
-        return Counted::Refused(Refusal::FileTooShort);
+        return Err(Refusal::FileTooShort);
     }
     if !needs_in_range(need_bytes(file, n)) {
-        return Counted::Refused(Refusal::Need);
+        return Err(Refusal::Need);
     }
-    Counted::Is(n)
+    Ok(n)
 }
 
 // The line count of a file of n buses, if it is sound.
-pub fn line_count(file: &[u8], n: usize) -> Counted
+pub fn line_count(file: &[u8], n: usize) -> Result<usize, Refusal>
     requires { (n ≡ file_bus_count file.now) × (n ≤ max_buses) }
-    ensures { outcome_of_count result ≡ outcome (line_count_causes file.now) (file_line_count file.now) }
+    ensures { outcome_of result ≡ outcome (line_count_causes file.now) (file_line_count file.now) }
 {
     let from = 2 + n;
     if file.len() < from + 2 {
-        return Counted::Refused(Refusal::FileTooShort);
+        return Err(Refusal::FileTooShort);
     }
     let m = word(file, from);
     if !within(0, Network::LINES, m) {
-        return Counted::Refused(Refusal::LineCount);
+        return Err(Refusal::LineCount);
     }
-    Counted::Is(m)
+    Ok(m)
 }
 
 // Where the m records of a file of n buses end, if they are complete.
-pub fn records_end(file: &[u8], n: usize, m: usize) -> Counted
+pub fn records_end(file: &[u8], n: usize, m: usize) -> Result<usize, Refusal>
     requires { (n ≡ file_bus_count file.now) × (n ≤ max_buses) × (m ≡ file_line_count file.now) × (m ≤ max_lines) }
-    ensures { outcome_of_count result ≡ outcome (missing_causes file.now) (records_end file.now) }
+    ensures { outcome_of result ≡ outcome (missing_causes file.now) (records_end file.now) }
 {
     let end = 2 + n + 2 + 4 * m;
     if file.len() < end {
-        return Counted::Refused(Refusal::FileTooShort);
+        return Err(Refusal::FileTooShort);
     }
-    Counted::Is(end)
+    Ok(end)
 }
 
 // Whether every weight that the bytes of a section give n buses is one that a bus may have.
@@ -165,75 +150,50 @@ fn weights_in_range(section: &[u8], n: usize) -> bool
     true
 }
 
-// The weight count of a file of n buses whose records end at place `from`, if the section of weights is sound and the file ends behind it.
-fn weight_section(file: &[u8], n: usize, from: usize) -> Counted
+// Whether the section of weights of a file of n buses, whose records end at place `from`, is sound, and the file ends behind it.
+fn weight_section(file: &[u8], n: usize, from: usize) -> Result<(), Refusal>
     requires { (n ≡ file_bus_count file.now) × (n ≤ max_buses) × (from ≡ records_end file.now) × (file_line_count file.now ≤ max_lines) }
-    ensures { outcome_of_count result ≡ outcome (weight_section_causes file.now) (file_weight_count file.now) }
+    ensures { outcome_of result ≡ outcome (weight_section_causes file.now) tt }
 {
     let weights_at = from + 2;
     if file.len() < weights_at {
-        return Counted::Refused(Refusal::FileTooShort);
+        return Err(Refusal::FileTooShort);
     }
     if word(file, from) != n {
-        return Counted::Refused(Refusal::WeightCount);
+        return Err(Refusal::WeightCount);
     }
     let weights_end = weights_at + 2 * n;
     if file.len() < weights_end {
-        return Counted::Refused(Refusal::FileTooShort);
+        return Err(Refusal::FileTooShort);
     }
     if !weights_in_range(&file[weights_at..weights_end], n) {
-        return Counted::Refused(Refusal::Weight);
+        return Err(Refusal::Weight);
     }
     if weights_end < file.len() {
-        return Counted::Refused(Refusal::FileTooLong);
+        return Err(Refusal::FileTooLong);
     }
-    Counted::Is(n)
+    Ok(())
 }
 
 // Judges what follows the m records of a file of n buses, which end at place `from`: nothing, or a section of weights.
-pub fn judge_weights(file: &[u8], n: usize, m: usize, from: usize) -> Reading
+pub fn judge_weights(file: &[u8], n: usize, m: usize, from: usize) -> Result<Counts, Refusal>
     requires { (n ≡ file_bus_count file.now) × (n ≤ max_buses) × (m ≡ file_line_count file.now) × (m ≤ max_lines) × (from ≡ records_end file.now) }
-    ensures { outcome_of_reading result ≡ outcome (end_causes file.now) (counts file.now) }
+    ensures { outcome_of result ≡ outcome (end_causes file.now) (counts file.now) }
 {
-    if file.len() <= from {
-        return Reading::Accepted(Counts { buses: n, lines: m });
+    if from < file.len() {
+        weight_section(file, n, from)?;
     }
-    match weight_section(file, n, from) {
-        Counted::Refused(cause) => Reading::Refused(cause),
-        Counted::Is(_) => Reading::Accepted(Counts { buses: n, lines: m }),
-    }
-}
-
-// Judges where a file of n buses and m records ends.
-fn judge_end(file: &[u8], n: usize, m: usize) -> Reading
-    requires { (n ≡ file_bus_count file.now) × (n ≤ max_buses) × (m ≡ file_line_count file.now) × (m ≤ max_lines) }
-    ensures { outcome_of_reading result ≡ outcome (missing_causes file.now ++ end_causes file.now) (counts file.now) }
-{
-    match records_end(file, n, m) {
-        Counted::Refused(cause) => Reading::Refused(cause),
-        Counted::Is(end) => judge_weights(file, n, m, end),
-    }
-}
-
-// Judges what follows the needs of a file of n buses.
-fn judge_lines(file: &[u8], n: usize) -> Reading
-    requires { (n ≡ file_bus_count file.now) × (n ≤ max_buses) }
-    ensures { outcome_of_reading result ≡ outcome (line_section_causes file.now) (counts file.now) }
-{
-    match line_count(file, n) {
-        Counted::Refused(cause) => Reading::Refused(cause),
-        Counted::Is(m) => judge_end(file, n, m),
-    }
+    Ok(Counts { buses: n, lines: m })
 }
 
 // Judges all of a file but what its records say. Gives its two counts; that of lines is how many records there are.
-pub fn judge(file: &[u8]) -> Reading
-    ensures { outcome_of_reading result ≡ sections_outcome file.now }
+pub fn judge(file: &[u8]) -> Result<Counts, Refusal>
+    ensures { outcome_of result ≡ sections_outcome file.now }
 {
-    match bus_section(file) {
-        Counted::Refused(cause) => Reading::Refused(cause),
-        Counted::Is(n) => judge_lines(file, n),
-    }
+    let n = bus_section(file)?;
+    let m = line_count(file, n)?;
+    let end = records_end(file, n, m)?;
+    judge_weights(file, n, m, end)
 }
 
 // Record k of a section of records.

@@ -4,19 +4,19 @@
 ghost use Rattle.std.specs.Prelude.{◌∷◌, ◌≡◌, ◌+◌, ◌*◌, ◌≤◌, ◌<◌, length};
 ghost use Rattle.lists.specs.Lists.{put};
 ghost use Rattle.lists.specs.Below.{map_below};
+ghost use Rattle.refusals.specs.Outcomes.{outcome_of};
 ghost use Rattle.table_spec.specs.Limits.{max_buses, max_lines};
 ghost use Rattle.table_spec.specs.Layout.{table_entries};
 ghost use Rattle.file_spec.specs.FileBytes.{weight_in};
 ghost use Rattle.file_spec.specs.SoundSections.{CompleteWeights};
 ghost use Rattle.file_spec.specs.Records.{pair_count};
 ghost use Rattle.file_spec.specs.OrderedRecords.{OrderedRecords};
-ghost use Rattle.file_sections.specs.FileAnswers.{outcome_of_reading};
 ghost use Rattle.file_records.specs.RecordSteps.{NeighbourCounts};
 ghost use Rattle.read_spec.specs.ReadOutcome.{read_outcome, table_after, Recorded};
 ghost use Rattle.read_spec.specs.ReadStages.{records_table, LinesDue, RecordsDue};
 
 use file_records::{count_neighbours, store_rows};
-pub use file_sections::{Counts, Reading};
+pub use file_sections::Counts;
 use file_sections::{
     judge, need_bytes, out_of_order, records, sound_ends, weight_bytes, weight_in,
 };
@@ -70,24 +70,30 @@ fn store_table(
 }
 
 // Reads m records that are sound and in order, of buses with these needs and weights.
-fn read_lines(needs: &[u8], weights: &[u8], section: &[u8], m: usize, table: &mut [u16]) -> Reading
+fn read_lines(
+    needs: &[u8],
+    weights: &[u8],
+    section: &[u8],
+    m: usize,
+    table: &mut [u16],
+) -> Result<Counts, Refusal>
     requires { CompleteWeights (length needs.now) weights.now × (4 * m ≤ length section.now) × OrderedRecords (length needs.now) m section.now }
-    ensures { LinesDue needs.now weights.now m section.now table.old (outcome_of_reading result) table.new }
+    ensures { LinesDue needs.now weights.now m section.now table.old (outcome_of result) table.new }
 {
     let n = needs.len();
     let mut counts = zero_counts();
     let lines = count_neighbours(section, n, m, &mut counts);
     if degree_too_high(&counts, n) {
-        return Reading::Refused(Refusal::DegreeTooHigh);
+        return Err(Refusal::DegreeTooHigh);
     }
     if !needs_can_be_met(needs, &counts) {
-        return Reading::Refused(Refusal::NeedAboveDegree);
+        return Err(Refusal::NeedAboveDegree);
     }
     if table.len() < entries(n, lines) {
-        return Reading::Refused(Refusal::TableTooShort);
+        return Err(Refusal::TableTooShort);
     }
     store_table(needs, weights, section, m, &mut counts, table);
-    Reading::Accepted(Counts { buses: n, lines })
+    Ok(Counts { buses: n, lines })
 }
 
 // Reads m records, of buses with these needs and weights.
@@ -97,37 +103,33 @@ fn read_records(
     section: &[u8],
     m: usize,
     table: &mut [u16],
-) -> Reading
+) -> Result<Counts, Refusal>
     requires { (length needs.now ≤ max_buses) × CompleteWeights (length needs.now) weights.now × (m ≤ max_lines) × (4 * m ≤ length section.now) }
-    ensures { RecordsDue needs.now weights.now m section.now table.old (outcome_of_reading result) table.new }
+    ensures { RecordsDue needs.now weights.now m section.now table.old (outcome_of result) table.new }
 {
     if !sound_ends(section, needs.len(), m) {
-        return Reading::Refused(Refusal::LineEnds);
+        return Err(Refusal::LineEnds);
     }
     if out_of_order(section, m) {
-        return Reading::Refused(Refusal::OutOfOrder);
+        return Err(Refusal::OutOfOrder);
     }
     read_lines(needs, weights, section, m, table)
 }
 
 // Reads a file into a lent slice.
-pub fn read(file: &[u8], table: &mut [u16]) -> Reading
-    ensures answer { outcome_of_reading result ≡ read_outcome file.now (length table.old) }
+pub fn read(file: &[u8], table: &mut [u16]) -> Result<Counts, Refusal>
+    ensures answer { outcome_of result ≡ read_outcome file.now (length table.old) }
     ensures stored { table.new ≡ table_after file.now table.old }
-    ensures recorded { Recorded file.now table.old (outcome_of_reading result) table.new }
+    ensures recorded { Recorded file.now table.old (outcome_of result) table.new }
 {
-    match judge(file) {
-        Reading::Refused(cause) => Reading::Refused(cause),
-        Reading::Accepted(counts) => {
-            let n = counts.buses;
-            let m = counts.lines;
-            read_records(
-                need_bytes(file, n),
-                weight_bytes(file, n, m),
-                records(file, n, m),
-                m,
-                table,
-            )
-        }
-    }
+    let counts = judge(file)?;
+    let n = counts.buses;
+    let m = counts.lines;
+    read_records(
+        need_bytes(file, n),
+        weight_bytes(file, n, m),
+        records(file, n, m),
+        m,
+        table,
+    )
 }

@@ -1,13 +1,33 @@
-use Rattle.std.proofs.Common.{sym, arith}
+use Rattle.std.proofs.Common.{◌≡◌, ◌≤◌, List, ℕ, sym, arith}
 use Rattle.refusals.proofs.Causes.{no_cause}
-use Rattle.file_spec.specs.FileBytes.{file_bus_count}
-use Rattle.file_spec.specs.Sections.{bus_section_causes}
-use Rattle.file_spec.proofs.SoundSections.{buses_passed}
+use Rattle.refusals.specs.Outcomes.{gives, outcome}
+use Rattle.table_spec.specs.Limits.{max_buses, max_lines}
+use Rattle.file_spec.specs.FileBytes.{file_bus_count, file_line_count, records_end}
+use Rattle.file_spec.specs.Sections.{bus_section_causes, line_count_causes, missing_causes}
+use Rattle.file_spec.proofs.SoundSections.{buses_passed, lines_passed}
 use Rattle.file_sections.proofs.judge.Goals as goal
 
--- The first section decides, or else what follows it.
-pub judge_lines-requires : goal.judge_lines-requires
-judge_lines-requires c =
+-- the bus count that a section gives is the file's, and no more than a network may have
+buses : (f : List ℕ) {n : ℕ} → gives n ≡ outcome (bus_section_causes f) (file_bus_count f) → (n ≡ file_bus_count f) × (n ≤ max_buses)
+buses f e = let z = no_cause (bus_section_causes f) (file_bus_count f) (sym e) in (z.1, omega (arith, (buses_passed f z.0).buses, z.1))
+
+-- so is the line count
+lines : (f : List ℕ) {m : ℕ} → gives m ≡ outcome (line_count_causes f) (file_line_count f) → (m ≡ file_line_count f) × (m ≤ max_lines)
+lines f e = let z = no_cause (line_count_causes f) (file_line_count f) (sym e) in (z.1, omega (arith, lines_passed f z.0, z.1))
+
+pub line_count-requires : goal.line_count-requires
+line_count-requires c = buses c.args.file.now c.in_ok-n.ensures
+
+pub records_end-requires : goal.records_end-requires
+records_end-requires c =
     let f = c.args.file.now in
-    let z = no_cause (bus_section_causes f) (file_bus_count f) (sym c.in-Is.ensures) in
-    (z.1, omega (arith, (buses_passed f z.0).buses, z.1))
+    let n = buses f c.in_ok-n.ensures in
+    let m = lines f c.in_ok-m.ensures in
+    (n.0, n.1, m.0, m.1)
+
+pub judge_weights-requires : goal.judge_weights-requires
+judge_weights-requires c =
+    let f = c.args.file.now in
+    let n = buses f c.in_ok-n.ensures in
+    let m = lines f c.in_ok-m.ensures in
+    (n.0, n.1, m.0, m.1, (no_cause (missing_causes f) (records_end f) (sym c.in_ok-end.ensures)).1)

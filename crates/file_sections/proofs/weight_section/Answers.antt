@@ -8,7 +8,7 @@ use Rattle.file_sections.proofs.Lengths.{cut, reaches, longer, all_read}
 use Rattle.file_sections.proofs.weight_section.Goals as goal
 
 pub returns-then-file-weights_at : goal.returns-then-file-weights_at
-returns-then-file-weights_at c = answer (weight_section_causes _) (file_weight_count _) (stop (cut _ _ (omega arith)))
+returns-then-file-weights_at c = answer (weight_section_causes _) tt (stop (cut _ _ (omega arith)))
 
 -- the weight count was read from behind the records
 pub returns-then-word-n : goal.returns-then-word-n
@@ -16,14 +16,14 @@ returns-then-word-n c =
     let f = c.args.file.now in
     let read : c.word.result ≡ file_weight_count f = c.word.ensures.0 ∙ ap (word_at f) c.requires.2 in
     let other = ne_eqb _ _ (λ e. c.if-word-n.true (read ∙ e ∙ sym c.requires.0)) in
-    answer (weight_section_causes f) (file_weight_count f) (pass (reaches _ _ (omega arith)) (stop (ap not other)))
+    answer (weight_section_causes f) tt (pass (reaches _ _ (omega arith)) (stop (ap not other)))
 
 pub returns-then-file-weights_end : goal.returns-then-file-weights_end
 returns-then-file-weights_end c =
     let f = c.args.file.now in
     let read : c.word.result ≡ file_weight_count f = c.word.ensures.0 ∙ ap (word_at f) c.requires.2 in
     let same = eq-eqb _ _ (sym read ∙ c.if-word-n.false ∙ c.requires.0) in
-    answer (weight_section_causes f) (file_weight_count f) (pass (reaches _ _ (omega arith)) (pass (ap not same) (stop (cut _ _ (omega arith)))))
+    answer (weight_section_causes f) tt (pass (reaches _ _ (omega arith)) (pass (ap not same) (stop (cut _ _ (omega arith)))))
 
 -- and the weights are the file's
 pub returns-then-not-weights_in_range : goal.returns-then-not-weights_in_range
@@ -33,7 +33,7 @@ returns-then-not-weights_in_range c =
     let same = eq-eqb _ _ (sym read ∙ c.if-word-n.false ∙ c.requires.0) in
     let seen : c.weights_in_range.result ≡ weights_in_range (file_weights f) =
     c.weights_in_range.ensures ∙ ap weights_in_range (weights_read f c.requires.0 c.requires.2) in
-    answer (weight_section_causes f) (file_weight_count f)
+    answer (weight_section_causes f) tt
     (pass (reaches _ _ (omega arith))
     (pass (ap not same) (pass (reaches _ _ (omega arith)) (stop (ap not (sym seen ∙ c.if-not-weights_in_range.true))))))
 
@@ -44,7 +44,7 @@ returns-then-weights_end-file c =
     let same = eq-eqb _ _ (sym read ∙ c.if-word-n.false ∙ c.requires.0) in
     let seen : c.weights_in_range.result ≡ weights_in_range (file_weights f) =
     c.weights_in_range.ensures ∙ ap weights_in_range (weights_read f c.requires.0 c.requires.2) in
-    answer (weight_section_causes f) (file_weight_count f)
+    answer (weight_section_causes f) tt
     (pass (reaches _ _ (omega arith))
     (pass (ap not same)
     (pass (reaches _ _ (omega arith)) (pass (ap not (sym seen ∙ c.if-not-weights_in_range.false)) (stop (longer _ _ (omega arith)))))))
@@ -56,8 +56,8 @@ returns c =
     let same = eq-eqb _ _ (sym read ∙ c.if-word-n.false ∙ c.requires.0) in
     let seen : c.weights_in_range.result ≡ weights_in_range (file_weights f) =
     c.weights_in_range.ensures ∙ ap weights_in_range (weights_read f c.requires.0 c.requires.2) in
-    answer (weight_section_causes f) (file_weight_count f)
+    answer (weight_section_causes f) tt
     (pass (reaches _ _ (omega arith))
     (pass (ap not same)
     (pass (reaches _ _ (omega arith))
-    (pass (ap not (sym seen ∙ c.if-not-weights_in_range.false)) (pass (all_read _ _ (omega arith)) (accept (sym c.if-word-n.false ∙ read) refl))))))
+    (pass (ap not (sym seen ∙ c.if-not-weights_in_range.false)) (pass (all_read _ _ (omega arith)) (accept refl refl))))))

@@ -1,2 +1,0 @@
--- The outcomes that answers on a file stand for.
-pub mod FileAnswers
