@@ -3,7 +3,7 @@
 
 ghost use Rattle.std.specs.Prelude.{◌≡◌, ◌+◌, ◌≤◌, ◌<◌, length};
 ghost use Rattle.lists.specs.Lists.{WrittenAt};
-ghost use Rattle.refusals.specs.WrittenAnswer.{outcome_of_written};
+ghost use Rattle.refusals.specs.Outcomes.{outcome_of};
 ghost use Rattle.table_spec.specs.Layout.{bus_count, weights, row};
 ghost use Rattle.table_spec.specs.Holds.{NeedsInRange, Holds};
 ghost use Rattle.write_spec.specs.FileOf.{word, words, pair_records, all_ones, weight_section, file_of};
@@ -14,7 +14,6 @@ ghost use Rattle.writer.specs.RowRecords.{record_above, row_records};
 pub use network::Refusal;
 use network::rows::entry;
 use network::table::{bus_count, lines, needs, neighbours, weights};
-pub use refusals::Written;
 use table_check::holds;
 
 // Writes a number in two bytes, low byte first, and gives the place behind it.
@@ -154,18 +153,17 @@ fn write_file(table: &[u16], ones: bool, out: &mut [u8]) -> usize
     write_section(weights(table), ones, out, weights_at)
 }
 
-// Writes the file of a network at the front of lent bytes.
-pub fn write(table: &[u16], out: &mut [u8]) -> Written
-    ensures answer { outcome_of_written result ≡ write_outcome table.now (length out.old) }
+// Writes the file of a network at the front of lent bytes, and gives its byte count.
+pub fn write(table: &[u16], out: &mut [u8]) -> Result<usize, Refusal>
+    ensures answer { outcome_of result ≡ write_outcome table.now (length out.old) }
     ensures written { out.new ≡ bytes_after table.now out.old }
 {
     if !holds(table) {
-        return Written::Refused(Refusal::NoNetwork);
+        return Err(Refusal::NoNetwork);
     }
     let ones = all_ones(weights(table));
     if out.len() < byte_count(table, ones) {
-        return Written::Refused(Refusal::BytesTooShort);
+        return Err(Refusal::BytesTooShort);
     }
-    let end = write_file(table, ones, out);
-    Written::Bytes(end)
+    Ok(write_file(table, ones, out))
 }

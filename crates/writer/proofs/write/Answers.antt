@@ -16,7 +16,7 @@ byte_count-requires c =
     let passes : holds c.args.table.now ≡ true = sym c.holds.ensures ∙ c.if-not-holds.false in
     (holds_facts _ passes, c.all_ones-ones.ensures ∙ ap all_ones c.weights.ensures)
 
-pub write_file-end-requires : goal.write_file-end-requires
-write_file-end-requires c =
+pub write_file-requires : goal.write_file-requires
+write_file-requires c =
     let passes : holds c.args.table.now ≡ true = sym c.holds.ensures ∙ c.if-not-holds.false in
     (holds_facts _ passes, c.all_ones-ones.ensures ∙ ap all_ones c.weights.ensures, omega (arith, c.byte_count.ensures, c.if-out-byte_count.false))
