@@ -1,3 +1,2 @@
--- What answers of the outage study stand for, and what its functions ask of one another.
-pub mod StudyAnswers
+-- What functions of the outage study ask of one another.
 pub mod StudyWork

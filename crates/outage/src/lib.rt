@@ -4,6 +4,7 @@
 ghost use Rattle.std.specs.Prelude.{[], ◌∷◌, ◌++◌, ◌≡◌, ℕ, ◌*◌, ◌^◌, ◌≤◌, ◌<◌, length, drop};
 ghost use Rattle.lists.specs.Lists.{without, at, Ascending, WrittenAt};
 ghost use Rattle.signed.specs.Signed.{difference, signed_below};
+ghost use Rattle.refusals.specs.Outcomes.{outcome_of};
 ghost use Rattle.table_spec.specs.Limits.{max_weight};
 ghost use Rattle.table_spec.specs.Layout.{bus_count, row, need, weight, lines};
 ghost use Rattle.table_spec.specs.Holds.{Holds};
@@ -15,7 +16,6 @@ ghost use Rattle.share_terms.specs.Unit.{Divided};
 ghost use Rattle.two_way.specs.TwoWay.{network_of};
 ghost use Rattle.outage_spec.specs.Outage.{without_line, change_over};
 ghost use Rattle.outage_spec.specs.StudyOutcome.{study_outcome, changes_after, AllStudied};
-ghost use Rattle.outage.specs.StudyAnswers.{outcome_of_study};
 ghost use Rattle.outage.specs.StudyWork.{Above, Room};
 
 use network::Network;
@@ -26,13 +26,6 @@ pub use share_terms::denominator;
 use share_terms::{add_terms, unit};
 use signed::less;
 use table_check::holds;
-
-// The number that all changes are over, or why there are none.
-#[derive(Clone, Copy)]
-pub enum AllChanges {
-    Over(u64),
-    Refused(Refusal),
-}
 
 // The two ends of a line.
 #[derive(Clone, Copy)]
@@ -163,30 +156,30 @@ pub fn study_over(table: &[u16], line: usize, over: u64, changes: &mut [i64])
 }
 
 // The study of a table that was tested.
-pub fn study(table: &[u16], line: usize, changes: &mut [i64]) -> AllChanges
+pub fn study(table: &[u16], line: usize, changes: &mut [i64]) -> Result<u64, Refusal>
     requires { Holds table.now }
-    ensures answer { outcome_of_study result ≡ study_outcome table.now line (length changes.old) }
+    ensures answer { outcome_of result ≡ study_outcome table.now line (length changes.old) }
     ensures stored { changes.new ≡ changes_after table.now line changes.old }
 {
     if lines(table) <= line {
-        return AllChanges::Refused(Refusal::NoSuchLine);
+        return Err(Refusal::NoSuchLine);
     }
     if changes.len() < bus_count(table) {
-        return AllChanges::Refused(Refusal::NumeratorsTooShort);
+        return Err(Refusal::NumeratorsTooShort);
     }
     let over = denominator(table);
     study_over(table, line, over, changes);
-    AllChanges::Over(over)
+    Ok(over)
 }
 
 // The changes of all buses when a line goes out: they are stored, and what they are over is given.
-pub fn changes(table: &[u16], line: usize, changes: &mut [i64]) -> AllChanges
-    ensures answer { outcome_of_study result ≡ study_outcome table.now line (length changes.old) }
+pub fn changes(table: &[u16], line: usize, changes: &mut [i64]) -> Result<u64, Refusal>
+    ensures answer { outcome_of result ≡ study_outcome table.now line (length changes.old) }
     ensures stored { changes.new ≡ changes_after table.now line changes.old }
-    ensures fair { AllStudied table.now line (length changes.old) (outcome_of_study result) changes.new }
+    ensures fair { AllStudied table.now line (length changes.old) (outcome_of result) changes.new }
 {
     if !holds(table) {
-        return AllChanges::Refused(Refusal::NoNetwork);
+        return Err(Refusal::NoNetwork);
     }
     study(table, line, changes)
 }

@@ -1,19 +1,11 @@
--- The outcomes that answers of Shares and Share stand for.
+-- The outcome that an answer of Share stands for.
 -- Definitions only.
-use Rattle.std.specs.Prelude.{ℕ}
-use Rattle.refusals.specs.Numbers.{number_of}
-use Rattle.refusals.specs.Outcomes.{Outcome, gives, refuses}
-use Rattle.scorer.specs.declared.AllShares.{AllShares}
-use Rattle.scorer.specs.declared.AllShares.TheVariants as all
-use Rattle.scorer.specs.declared.OneShare.{OneShare}
-use Rattle.scorer.specs.declared.OneShare.TheVariants as one
+use Rattle.std.specs.Prelude.{ℕ, Result}
+use Rattle.refusals.specs.declared.Refusal.{Refusal}
+use Rattle.refusals.specs.Outcomes.{Outcome, outcome_of}
+use Rattle.refusals.specs.Causes.{part_of}
+use Rattle.scorer.specs.declared.BusShare.{BusShare}
 
--- L, or the scope's number of the refusal
-abbrev pub outcome_of_shares : AllShares → Outcome ℕ
-outcome_of_shares (all.Over L) = gives L
-outcome_of_shares (all.Refused r) = refuses (number_of r)
-
--- the numerator and L, or the scope's number of the refusal
-abbrev pub outcome_of_share : OneShare → Outcome (ℕ × ℕ)
-outcome_of_share (one.Is x L) = gives (x, L)
-outcome_of_share (one.Refused r) = refuses (number_of r)
+-- the numerator and L, or the refusal's number
+abbrev pub outcome_of_share : Result BusShare Refusal → Outcome (ℕ × ℕ)
+outcome_of_share answer = part_of (λ (s : BusShare). (s.numerator, s.over)) (outcome_of answer)

@@ -4,6 +4,7 @@
 ghost use Rattle.std.specs.Prelude.{◌≡◌, ◌*◌, ◌≤◌, ◌<◌, length};
 ghost use Rattle.lists.specs.Lists.{Tabled, put};
 ghost use Rattle.lists.specs.Below.{map_below, range};
+ghost use Rattle.refusals.specs.Outcomes.{outcome_of};
 ghost use Rattle.table_spec.specs.Limits.{max_weight};
 ghost use Rattle.table_spec.specs.Layout.{bus_count, need, degree};
 ghost use Rattle.table_spec.specs.Holds.{Scorable, Holds};
@@ -16,7 +17,7 @@ ghost use Rattle.two_way.specs.TwoWay.{network_of};
 ghost use Rattle.share_terms.specs.Unit.{unit};
 ghost use Rattle.share_terms.specs.Added.{Added};
 ghost use Rattle.share_spec.specs.ShareOutcomes.{shares_outcome, numerators_after, AllFair, share_outcome, OneFair};
-ghost use Rattle.scorer.specs.ShareAnswers.{outcome_of_shares, outcome_of_share};
+ghost use Rattle.scorer.specs.ShareAnswers.{outcome_of_share};
 ghost use Rattle.scorer.specs.ScorerWork.{degrees, Room};
 
 use network::Network;
@@ -26,20 +27,6 @@ use network::table::{bus_count, need, neighbours, weight};
 pub use share_terms::denominator;
 use share_terms::{add_terms, clear, term, unit};
 use table_check::holds;
-
-// The number that all numerators are over, or why there are none.
-#[derive(Clone, Copy)]
-pub enum AllShares {
-    Over(u64),
-    Refused(Refusal),
-}
-
-// A numerator and the number that it is over, or why there is none.
-#[derive(Clone, Copy)]
-pub enum OneShare {
-    Is(u64, u64),
-    Refused(Refusal),
-}
 
 // A numerator, and the number that it is over.
 #[derive(Clone, Copy)]
@@ -141,32 +128,30 @@ pub fn share_of(table: &[u16], bus: usize) -> BusShare
 }
 
 // The shares of all buses: the numerators are stored, and what they are over is given.
-pub fn shares(table: &[u16], numerators: &mut [u64]) -> AllShares
-    ensures answer { outcome_of_shares result ≡ shares_outcome (network_of table.now) (length numerators.old) }
+pub fn shares(table: &[u16], numerators: &mut [u64]) -> Result<u64, Refusal>
+    ensures answer { outcome_of result ≡ shares_outcome (network_of table.now) (length numerators.old) }
     ensures stored { numerators.new ≡ numerators_after (network_of table.now) numerators.old }
-    ensures fair { AllFair (network_of table.now) (length numerators.old) (outcome_of_shares result) numerators.new }
+    ensures fair { AllFair (network_of table.now) (length numerators.old) (outcome_of result) numerators.new }
 {
     if !holds(table) {
-        return AllShares::Refused(Refusal::NoNetwork);
+        return Err(Refusal::NoNetwork);
     }
     if numerators.len() < bus_count(table) {
-        return AllShares::Refused(Refusal::NumeratorsTooShort);
+        return Err(Refusal::NumeratorsTooShort);
     }
-    let over = score(table, numerators);
-    AllShares::Over(over)
+    Ok(score(table, numerators))
 }
 
 // The share of one bus: its numerator, and what it is over.
-pub fn share(table: &[u16], bus: usize) -> OneShare
+pub fn share(table: &[u16], bus: usize) -> Result<BusShare, Refusal>
     ensures answer { outcome_of_share result ≡ share_outcome (network_of table.now) bus }
     ensures fair { OneFair (network_of table.now) bus (outcome_of_share result) }
 {
     if !holds(table) {
-        return OneShare::Refused(Refusal::NoNetwork);
+        return Err(Refusal::NoNetwork);
     }
     if bus_count(table) <= bus {
-        return OneShare::Refused(Refusal::NoSuchBus);
+        return Err(Refusal::NoSuchBus);
     }
-    let share = share_of(table, bus);
-    OneShare::Is(share.numerator, share.over)
+    Ok(share_of(table, bus))
 }
