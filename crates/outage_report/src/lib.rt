@@ -11,8 +11,8 @@ ghost use Rattle.outage_report.specs.ChangeRoom.{Small, longest_changes};
 use file_sections::word;
 use network::Network;
 use network::table::bus_count;
-use outage::{AllChanges, study};
-use reader::{Reading, Refusal, read};
+use outage::study;
+use reader::{Refusal, read};
 use refused_line::write_refusal;
 use text::{fill_template, signed_decimal};
 
@@ -58,8 +58,8 @@ fn write_study(table: &[u16], line: usize, out: &mut [u8]) -> usize
     let n = bus_count(table);
     let mut changes = [0i64; Network::BUSES];
     match study(table, line, &mut changes) {
-        AllChanges::Over(_) => write_changes(&changes[..n], out),
-        AllChanges::Refused(cause) => write_refusal(cause, out),
+        Ok(_) => write_changes(&changes[..n], out),
+        Err(cause) => write_refusal(cause, out),
     }
 }
 
@@ -74,7 +74,7 @@ pub fn report(input: &[u8], out: &mut [u8; LONGEST_CHANGES]) -> usize
     let line = word(input, 0);
     let mut table = [0u16; Network::ENTRIES];
     match read(&input[2..], &mut table) {
-        Reading::Accepted(_) => write_study(&table, line, out),
-        Reading::Refused(cause) => write_refusal(cause, out),
+        Ok(_) => write_study(&table, line, out),
+        Err(cause) => write_refusal(cause, out),
     }
 }

@@ -6,7 +6,7 @@ ghost use Rattle.lists.specs.Lists.{put};
 ghost use Rattle.report.specs.Report.{printed};
 
 use network::Network;
-use reader::{Reading, read};
+use reader::read;
 use refused_line::write_refusal;
 pub use whole_sheet::LONGEST_SHEET;
 use whole_sheet::write_sheet;
@@ -18,7 +18,7 @@ pub fn report(file: &[u8], out: &mut [u8; LONGEST_SHEET]) -> usize
 {
     let mut table = [0u16; Network::ENTRIES];
     match read(file, &mut table) {
-        Reading::Accepted(_) => write_sheet(&table, out),
-        Reading::Refused(cause) => write_refusal(cause, out),
+        Ok(_) => write_sheet(&table, out),
+        Err(cause) => write_refusal(cause, out),
     }
 }

@@ -4,6 +4,7 @@
 
 ghost use Rattle.std.specs.Prelude.{◌≡◌, length};
 ghost use Rattle.refusals.specs.Numbers.{number_of};
+ghost use Rattle.refusals.specs.Outcomes.{outcome_of};
 ghost use Rattle.table_spec.specs.Limits.{max_buses, max_entries, max_bytes};
 ghost use Rattle.table_spec.specs.TableOutcomes.{degree_outcome, row_place_outcome, RowStands};
 ghost use Rattle.read_spec.specs.ReadOutcome.{read_outcome, table_after, Recorded};
@@ -17,13 +18,8 @@ ghost use Rattle.whole_sheet.specs.WholeSheet.{sheet_outcome, sheet_after};
 ghost use Rattle.whole_sheet.specs.SheetRoom.{longest_sheet};
 ghost use Rattle.share_sheet_c.specs.Status.{ByStatus, outcome_of_status, counted};
 
-use fraction::Cancelled;
 use network::Network;
-use outage::AllChanges;
-use reader::Reading;
-use refusals::{Refusal, Written};
-use scorer::{AllShares, OneShare};
-use table_lookup::{BusDegree, RowPlace};
+use refusals::Refusal;
 use whole_sheet::LONGEST_SHEET;
 
 // The status of a refused call.
@@ -31,6 +27,19 @@ fn status(cause: Refusal) -> u32
     ensures { result ≡ number_of cause }
 {
     cause.number() as u32
+}
+
+// Hands back what a call gives through a lent place, and gives its status.
+fn hand_back<T: Copy>(answer: Result<T, Refusal>, place: &mut T) -> u32
+    ensures { ByStatus (outcome_of answer) place.old result place.new }
+{
+    match answer {
+        Ok(value) => {
+            *place = value;
+            0
+        }
+        Err(cause) => status(cause),
+    }
 }
 
 // Reads a file into a lent table, and gives n and m.
@@ -46,12 +55,12 @@ pub extern "C" fn share_sheet_read(
     ensures recorded { Recorded file.now table.old (outcome_of_status result (counted buses.new lines.new)) table.new }
 {
     match reader::read(file, table) {
-        Reading::Refused(cause) => status(cause),
-        Reading::Accepted(counts) => {
+        Ok(counts) => {
             *buses = counts.buses;
             *lines = counts.lines;
             0
         }
+        Err(cause) => status(cause),
     }
 }
 
@@ -61,13 +70,7 @@ pub extern "C" fn share_sheet_write(table: &[u16], file: &mut [u8], bytes: &mut 
     ensures answer { ByStatus (write_outcome table.now (length file.old)) bytes.old result bytes.new }
     ensures written { file.new ≡ bytes_after table.now file.old }
 {
-    match writer::write(table, file) {
-        Written::Refused(cause) => status(cause),
-        Written::Bytes(count) => {
-            *bytes = count;
-            0
-        }
-    }
+    hand_back(writer::write(table, file), bytes)
 }
 
 // Gives the degree of a bus.
@@ -75,13 +78,7 @@ pub extern "C" fn share_sheet_write(table: &[u16], file: &mut [u8], bytes: &mut 
 pub extern "C" fn share_sheet_degree(table: &[u16], bus: usize, degree: &mut usize) -> u32
     ensures answer { ByStatus (degree_outcome table.now bus) degree.old result degree.new }
 {
-    match table_lookup::degree(table, bus) {
-        BusDegree::Refused(cause) => status(cause),
-        BusDegree::Is(neighbours) => {
-            *degree = neighbours;
-            0
-        }
-    }
+    hand_back(table_lookup::degree(table, bus), degree)
 }
 
 // Gives where the row of a bus begins in the table, and how many entries it has.
@@ -97,12 +94,12 @@ pub extern "C" fn share_sheet_row(
     ensures stands { RowStands table.now bus (outcome_of_status result (start.new, entries.new)) }
 {
     match table_lookup::row_place(table, bus) {
-        RowPlace::Refused(cause) => status(cause),
-        RowPlace::At(first, count) => {
-            *start = first;
-            *entries = count;
+        Ok(place) => {
+            *start = place.start;
+            *entries = place.entries;
             0
         }
+        Err(cause) => status(cause),
     }
 }
 
@@ -113,13 +110,7 @@ pub extern "C" fn share_sheet_shares(table: &[u16], numerators: &mut [u64], over
     ensures stored { numerators.new ≡ numerators_after (network_of table.now) numerators.old }
     ensures fair { AllFair (network_of table.now) (length numerators.old) (outcome_of_status result over.new) numerators.new }
 {
-    match scorer::shares(table, numerators) {
-        AllShares::Refused(cause) => status(cause),
-        AllShares::Over(denominator) => {
-            *over = denominator;
-            0
-        }
-    }
+    hand_back(scorer::shares(table, numerators), over)
 }
 
 // Gives the numerator of one bus, and L.
@@ -134,12 +125,12 @@ pub extern "C" fn share_sheet_share(
     ensures fair { OneFair (network_of table.now) bus (outcome_of_status result (numerator.new, over.new)) }
 {
     match scorer::share(table, bus) {
-        OneShare::Refused(cause) => status(cause),
-        OneShare::Is(part, whole) => {
-            *numerator = part;
-            *over = whole;
+        Ok(share) => {
+            *numerator = share.numerator;
+            *over = share.over;
             0
         }
+        Err(cause) => status(cause),
     }
 }
 
@@ -155,13 +146,7 @@ pub extern "C" fn share_sheet_outage(
     ensures stored { changes.new ≡ changes_after table.now line changes.old }
     ensures fair { AllStudied table.now line (length changes.old) (outcome_of_status result over.new) changes.new }
 {
-    match outage::changes(table, line, changes) {
-        AllChanges::Refused(cause) => status(cause),
-        AllChanges::Over(common) => {
-            *over = common;
-            0
-        }
-    }
+    hand_back(outage::changes(table, line, changes), over)
 }
 
 // Gives a fraction in lowest terms.
@@ -176,12 +161,12 @@ pub extern "C" fn share_sheet_cancel(
     ensures rule { CancelRule numerator denominator (outcome_of_status result (top.new, bottom.new)) }
 {
     match fraction::cancel(numerator, denominator) {
-        Cancelled::Refused(cause) => status(cause),
-        Cancelled::Pair(lowest, under) => {
-            *top = lowest;
-            *bottom = under;
+        Ok(lowest) => {
+            *top = lowest.top;
+            *bottom = lowest.bottom;
             0
         }
+        Err(cause) => status(cause),
     }
 }
 
@@ -196,13 +181,7 @@ pub extern "C" fn share_sheet_line(
     ensures answer { ByStatus (line_outcome (network_of table.now) line (length text.old)) bytes.old result bytes.new }
     ensures written { text.new ≡ line_after (network_of table.now) line text.old }
 {
-    match sheet::line(table, line, text) {
-        Written::Refused(cause) => status(cause),
-        Written::Bytes(count) => {
-            *bytes = count;
-            0
-        }
-    }
+    hand_back(sheet::line(table, line, text), bytes)
 }
 
 // Writes the whole sheet at the front of a lent text, and gives its byte count.
@@ -211,13 +190,7 @@ pub extern "C" fn share_sheet_whole(table: &[u16], text: &mut [u8], bytes: &mut 
     ensures answer { ByStatus (sheet_outcome (network_of table.now) (length text.old)) bytes.old result bytes.new }
     ensures written { text.new ≡ sheet_after (network_of table.now) text.old }
 {
-    match whole_sheet::whole(table, text) {
-        Written::Refused(cause) => status(cause),
-        Written::Bytes(all) => {
-            *bytes = all;
-            0
-        }
-    }
+    hand_back(whole_sheet::whole(table, text), bytes)
 }
 
 // The most buses of a network: as many numerators or changes are enough for each.

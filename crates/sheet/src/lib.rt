@@ -3,7 +3,7 @@
 
 ghost use Rattle.std.specs.Prelude.{◌≡◌, suc, ◌+◌, ◌≤◌, ◌<◌, length};
 ghost use Rattle.lists.specs.Lists.{WrittenAt};
-ghost use Rattle.refusals.specs.WrittenAnswer.{outcome_of_written};
+ghost use Rattle.refusals.specs.Outcomes.{outcome_of};
 ghost use Rattle.table_spec.specs.Layout.{bus_count};
 ghost use Rattle.table_spec.specs.Holds.{Holds};
 ghost use Rattle.share_spec.specs.Network.{denominator};
@@ -16,7 +16,6 @@ ghost use Rattle.sheet.specs.LineRoom.{longest_line};
 use fraction::reduce;
 pub use network::Refusal;
 use network::table::{bus_count, lines, need, neighbours};
-pub use refusals::Written;
 use scorer::{denominator, share_of};
 use table_check::holds;
 use text::fill_template;
@@ -72,27 +71,27 @@ fn write_line(table: &[u16], i: usize, out: &mut [u8]) -> usize
 }
 
 // Copies a text to the front of a lent slice, if that is long enough.
-pub fn copy_text(text: &[u8], out: &mut [u8]) -> Written
-    ensures result_value { outcome_of_written result ≡ text_outcome text.now (length out.old) }
+pub fn copy_text(text: &[u8], out: &mut [u8]) -> Result<usize, Refusal>
+    ensures result_value { outcome_of result ≡ text_outcome text.now (length out.old) }
     ensures out_after { out.new ≡ text_after text.now out.old }
 {
     if out.len() < text.len() {
-        return Written::Refused(Refusal::TextTooShort);
+        return Err(Refusal::TextTooShort);
     }
     out[..text.len()].copy_from_slice(text);
-    Written::Bytes(text.len())
+    Ok(text.len())
 }
 
 // Writes sheet line i at the front of a lent slice. It is written aside first, since a refused call changes nothing.
-pub fn line(table: &[u16], i: usize, out: &mut [u8]) -> Written
-    ensures answer { outcome_of_written result ≡ line_outcome (network_of table.now) i (length out.old) }
+pub fn line(table: &[u16], i: usize, out: &mut [u8]) -> Result<usize, Refusal>
+    ensures answer { outcome_of result ≡ line_outcome (network_of table.now) i (length out.old) }
     ensures text { out.new ≡ line_after (network_of table.now) i out.old }
 {
     if !holds(table) {
-        return Written::Refused(Refusal::NoNetwork);
+        return Err(Refusal::NoNetwork);
     }
     if bus_count(table) < i {
-        return Written::Refused(Refusal::NoSuchBus);
+        return Err(Refusal::NoSuchBus);
     }
     let mut text = [0u8; LONGEST_LINE];
     let bytes = write_line(table, i, &mut text);

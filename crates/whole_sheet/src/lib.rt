@@ -3,7 +3,7 @@
 
 ghost use Rattle.std.specs.Prelude.{◌≡◌, ◌≤◌, length};
 ghost use Rattle.lists.specs.Lists.{WrittenAt};
-ghost use Rattle.refusals.specs.WrittenAnswer.{outcome_of_written};
+ghost use Rattle.refusals.specs.Outcomes.{outcome_of};
 ghost use Rattle.table_spec.specs.Holds.{Holds};
 ghost use Rattle.two_way.specs.TwoWay.{network_of};
 ghost use Rattle.whole_sheet.specs.WholeSheet.{whole_sheet, sheet_outcome, sheet_after};
@@ -12,8 +12,8 @@ ghost use Rattle.whole_sheet.specs.SheetRoom.{longest_sheet, Scored};
 use network::Network;
 use network::table::bus_count;
 use scorer::score;
+pub use sheet::Refusal;
 use sheet::{LONGEST_LINE, copy_text, write_bus, write_heading};
-pub use sheet::{Refusal, Written};
 use table_check::holds;
 
 // Bytes that are enough for every sheet: the heading, and a line for each bus.
@@ -47,12 +47,12 @@ pub fn write_sheet(table: &[u16], out: &mut [u8]) -> usize
 }
 
 // Writes sheet lines 0 to n at the front of a lent slice. They are written aside first, since a refused call changes nothing.
-pub fn whole(table: &[u16], out: &mut [u8]) -> Written
-    ensures answer { outcome_of_written result ≡ sheet_outcome (network_of table.now) (length out.old) }
+pub fn whole(table: &[u16], out: &mut [u8]) -> Result<usize, Refusal>
+    ensures answer { outcome_of result ≡ sheet_outcome (network_of table.now) (length out.old) }
     ensures text { out.new ≡ sheet_after (network_of table.now) out.old }
 {
     if !holds(table) {
-        return Written::Refused(Refusal::NoNetwork);
+        return Err(Refusal::NoNetwork);
     }
     let mut text = [0u8; LONGEST_SHEET];
     let bytes = write_sheet(table, &mut text);

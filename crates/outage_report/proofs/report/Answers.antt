@@ -14,9 +14,9 @@ room : length (replicate {A = ℕ} max_entries 0) ≡ max_entries
 room = length-replicate {A = ℕ} max_entries 0
 
 -- Read accepted the file behind the line number.
-pub returns-in-Accepted : goal.returns-in-Accepted
-returns-in-Accepted c =
-    let e = c.in-Accepted.ensures in
+pub returns-in-Ok : goal.returns-in-Ok
+returns-in-Ok c =
+    let e = c.in-Ok.ensures in
     let file = part 2 (length c.args.input.now) c.args.input.now in
     let k = c.word-line.result in
     let due =

@@ -14,10 +14,10 @@ room = length-replicate {A = ℤ} max_buses (pos 0)
 
 pub write_changes-requires : goal.write_changes-requires
 write_changes-requires c =
-    (front_small c.args.table.now c.args.line lent c.bus_count-n.ensures.0 (sym c.in-Over.ensures.answer) c.in-Over.ensures.stored, c.requires.1)
+    (front_small c.args.table.now c.args.line lent c.bus_count-n.ensures.0 (sym c.in-Ok.ensures.answer) c.in-Ok.ensures.stored, c.requires.1)
 
-pub returns-in-Over-clause-written_at : goal.returns-in-Over-clause-written_at
-returns-in-Over-clause-written_at c =
-    let accepted = sym c.in-Over.ensures.answer in
-    let text = front-lines c.args.table.now c.args.line lent c.bus_count-n.ensures.0 accepted c.in-Over.ensures.stored ∙ print_changes c.args.table.now c.args.line room accepted in
+pub returns-in-Ok-clause-written_at : goal.returns-in-Ok-clause-written_at
+returns-in-Ok-clause-written_at c =
+    let accepted = sym c.in-Ok.ensures.answer in
+    let text = front-lines c.args.table.now c.args.line lent c.bus_count-n.ensures.0 accepted c.in-Ok.ensures.stored ∙ print_changes c.args.table.now c.args.line room accepted in
     rw text at c.write_changes.ensures.written_at
