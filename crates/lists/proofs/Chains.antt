@@ -1,12 +1,13 @@
 -- What `any` and `all` say of the front of a list, as tests over the numbers below its length.
-use Rattle.std.proofs.Common.{Bool, ◌&&◌, ◌||◌, List, get_or, ◌≡◌, ℕ, zero, suc, ◌≤◌, length, take, sym, ap, ◌∙◌, arith, add-one}
+use Rattle.std.proofs.Common.{max, map, fold, unwrap_or, refl, [], ◌∷◌, Bool, ◌&&◌, ◌||◌, List, get_or, ◌≡◌, ℕ, zero, suc, ◌≤◌, length, take, sym, ap, ◌∙◌, arith, add-one}
 use Rattle.std.proofs.Math.Seq.{take_all}
-use Rattle.std.specs.List.{list_any, list_all, zip, range_with_len}
+use Rattle.std.specs.List.{list_any, list_all, zip, range_with_len, reduce}
 use Rattle.std.proofs.lemmas.List.Folds.{list_any_more, list_all_more}
-use Rattle.std.proofs.lemmas.List.FromFn.{length-range_with_len, get_or-range_with_len}
+use Rattle.std.proofs.lemmas.List.FromFn.{length-range_with_len, get_or-range_with_len, map-range_with_len_more}
+use Rattle.std.proofs.lemmas.List.Sums.{fold-append}
 use Rattle.std.proofs.lemmas.Slice.Zip.{length-zip, get_or-zip}
 use Rattle.lists.specs.Lists.{at}
-use Rattle.lists.specs.Below.{all_below, any_below}
+use Rattle.lists.specs.Below.{all_below, any_below, largest_below}
 use Rattle.lists.proofs.Loops.{all_below_start, any_below_start, all_below-next, any_below-next, all_below-same, all_below-at, all_below_by}
 use Rattle.lists.proofs.Tests.{same_test, and_both, and_left, and_right}
 
@@ -47,3 +48,20 @@ all_below-and p q n =
     same_test _ _
     (λ w. and_both _ _ (all_below_by p n (λ i b. and_left (p i) (q i) (all_below-at _ n w b))) (all_below_by q n (λ i b. and_right (p i) (q i) (all_below-at _ n w b))))
     (λ w. all_below_by _ n (λ i b. and_both _ _ (all_below-at p n (and_left (all_below n p) _ w) b) (all_below-at q n (and_right (all_below n p) _ w) b)))
+
+-- the largest of what a chain over a range gives
+largest_list : (l : List ℕ) → unwrap_or (reduce max l) 0 ≡ fold max 0 l
+largest_list [] = refl
+largest_list (x ∷ l) = ap (λ a. fold max a l) (omega arith)
+
+largest_map : (f : ℕ → ℕ) (n : ℕ) → fold max 0 (map f (range_with_len 0 n)) ≡ largest_below n f
+unfolding largest_below
+largest_map f zero = refl
+largest_map f (suc n) =
+    ap (λ k. fold max 0 (map f (range_with_len 0 k))) (sym (add-one n))
+    ∙ ap (fold max 0) (map-range_with_len_more f 0 n n (omega arith))
+    ∙ fold-append max 0 (map f (range_with_len 0 n)) (f n ∷ [])
+    ∙ ap (λ m. max m (f n)) (largest_map f n)
+
+pub largest_range : (f : ℕ → ℕ) (n : ℕ) → unwrap_or (reduce max (map f (range_with_len 0 n))) 0 ≡ largest_below n f
+largest_range f n = largest_list (map f (range_with_len 0 n)) ∙ largest_map f n
