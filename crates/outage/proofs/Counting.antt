@@ -99,14 +99,13 @@ module _ {t : List ℕ} (w : Holds t) {i k : ℕ} (b : i < bus_count t) {r : Lis
       pub counted_next : rest - (length r - k) + lines_before t (i + 1) ≡ line
       counted_next = omega (arith, many, e, ap length (join_below-next i (pairs_at t)), length-append (join_below i (pairs_at t)) (pairs_at t i))
 
-      pub bus_left : line < lines t → i + 1 < n
-      bus_left h =
-          split (ltb (i + 1) n) (ltb-true (i + 1) n)
-          (λ g. let z : i + 1 ≡ n = omega (arith, ltb-false (i + 1) n g) in
-          absurd (omega (
-            arith,
-            counted_next,
-            length_pairs t w,
-            ap length (pairs-joined n (row t) w.shape.complete.most (neighbour-below t w)),
-            ap (lines_before t) z,
-          )))
+-- behind the last bus there are no lines left
+pub none_left : {t : List ℕ} (w : Holds t) (rest : ℕ) {i line : ℕ} → i ≤ bus_count t → bus_count t ≤ i → rest + lines_before t i ≡ line → line < lines t → ⊥
+none_left {t} w rest {i} a b e l =
+    let z : i ≡ bus_count t = omega arith in
+    omega (
+      arith,
+      length_pairs t w,
+      ap length (pairs-joined (bus_count t) (row t) w.shape.complete.most (neighbour-below t w)),
+      ap (lines_before t) z,
+    )

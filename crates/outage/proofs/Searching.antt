@@ -1,10 +1,14 @@
 -- How the buses above a bus are found in its row, and how one is left out.
 use mathlib.Core.List.{List, [], ◌∷◌, ◌++◌, append-nil}
 use mathlib.Core.Logic.{⊎_elim}
-use mathlib.Core.Path.{◌≡◌, sym, ap, ◌∙◌}
+use mathlib.Core.Path.{◌≡◌, ap, ◌∙◌}
 use Prim.Native.Nat.{ℕ, ◌+◌, ◌≤◌, ◌<◌}
 use native.Mathlib.Omega.{arith}
-use borrow.Author.Tests.{ne_eqb, eq-eqb}
+use borrow.Author.Tests.{ne_eqb, eq-eqb, leb-true, leb-false}
+use mathlib.Core.Bool.{true, false}
+use lib.Dec.{leb}
+use Rattle.std.specs.List.Sorted.{IsPartitionPoint, IsPartitionedBy}
+use Rattle.std.proofs.lemmas.List.Sorted.{IsPartitionedBy-leb, IsNonDecreasingBy-from_default}
 use lib.ListN.{length, set, take, length-append}
 use lib.Seq.{take_all, length-take-le}
 use Rattle.lists.specs.Lists.{without, at, Ascending, WrittenAt}
@@ -14,42 +18,18 @@ use Rattle.lists.proofs.Without.{without-append, length-without-le}
 use Rattle.lists.proofs.Writes.{length-put, stored_entry}
 use Rattle.outage.specs.StudyWork.{Above}
 
--- ---- the search: buses before place `low` are not above the bus, and those from place `high` on are
+-- ---- the search
 
-pub record Between (r : List ℕ) (bus low high : ℕ) : Type 0 where
-  pub ordered : low ≤ high
-  pub inside : high ≤ length r
-  pub before : (i : ℕ) → i < low → at r i ≤ bus
-  pub behind : (i : ℕ) → high ≤ i → i < length r → bus < at r i
+-- a row that ascends is parted at each bus
+pub parted : (r : List ℕ) (bus : ℕ) → Ascending r → IsPartitionedBy (λ x. leb x bus) r
+unfolding at
+parted r bus up =
+    IsPartitionedBy-leb (λ x. x) r bus
+    (IsNonDecreasingBy-from_default (λ x. x) r 0 λ i j h l. ⊎_elim (λ e. omega (arith, ap (at r) e)) (λ b. omega (arith, up i j b l)) (last_or {i = i} {n = j} (omega arith)))
 
-pub search_start : (r : List ℕ) (bus : ℕ) {n : ℕ} → n ≡ length r → Between r bus 0 n
-search_start r bus e = record {
-  ordered = omega arith;
-  inside = omega arith;
-  before = λ i b. absurd (omega arith);
-  behind = λ i b c. absurd (omega arith);
-}
-
--- x is the bus in the middle
-module _ {r : List ℕ} (up : Ascending r) {bus low high middle x : ℕ} (w : Between r bus low high) (l : low ≤ middle) (m : middle < high) (e : x ≡ at r middle) where
-  pub search_up : x ≤ bus → Between r bus (middle + 1) high
-  search_up h = record {
-    ordered = omega arith;
-    inside = w.inside;
-    before = λ i b. ⊎_elim (λ q. omega (arith, ap (at r) q)) (λ c. omega (arith, up i middle c (omega (arith, w.inside)))) (last_or {i = i} {n = middle} (omega arith));
-    behind = w.behind;
-  }
-
-  pub search_down : bus < x → Between r bus low middle
-  search_down h = record {
-    ordered = l;
-    inside = omega (arith, w.inside);
-    before = w.before;
-    behind = λ i b c. ⊎_elim (λ q. omega (arith, ap (at r) q)) (λ d. omega (arith, up middle i d c)) (last_or {i = middle} {n = i} (omega arith));
-  }
-
-pub search_end : {r : List ℕ} {bus low high : ℕ} → Between r bus low high → high ≤ low → Above r bus low
-search_end w h = record { inside = omega (arith, w.ordered, w.inside); before = w.before; behind = λ i b c. w.behind i (omega arith) c }
+pub above_by : {r : List ℕ} {bus k : ℕ} → k ≤ length r → IsPartitionPoint (λ x. leb x bus ≡ true) (λ x. leb x bus ≡ false) r k → Above r bus k
+unfolding at
+above_by h p = record { inside = h; before = λ i b. leb-true _ _ (p.0 i 0 (omega arith) b); behind = λ i b c. leb-false _ _ (p.1 i 0 b c) }
 
 -- ---- leaving one out: of the first k buses of r those that are not `bus` were copied to the front of t, which left u; x is the next
 
@@ -63,19 +43,18 @@ module _ (r : List ℕ) (bus k : ℕ) (t : List ℕ) {many : ℕ} {u : List ℕ}
     pub many_le : many ≤ k
     many_le = omega (arith, w.0, length-without-le (bus ∷ []) (take k r), length-take-le k r (omega arith))
 
-    module _ {x : ℕ} (e : x ≡ at r k) where
-      more : without (bus ∷ []) (take (k + 1) r) ≡ without (bus ∷ []) (take k r) ++ without (bus ∷ []) (x ∷ [])
-      more = ap (without (bus ∷ [])) (take_next k r b ∙ ap (λ y. take k r ++ (y ∷ [])) (sym e)) ∙ without-append (bus ∷ []) (take k r) (x ∷ [])
+    more : without (bus ∷ []) (take (k + 1) r) ≡ without (bus ∷ []) (take k r) ++ without (bus ∷ []) (at r k ∷ [])
+    more = ap (without (bus ∷ [])) (take_next k r b) ∙ without-append (bus ∷ []) (take k r) (at r k ∷ [])
 
-      pub copied_next : (x ≡ bus → ⊥) → length r ≤ length t → WrittenAt (without (bus ∷ []) (take (k + 1) r)) 0 t (many + 1) (set u many (at r k))
-      copied_next q h =
-          let next : without (bus ∷ []) (take (k + 1) r) ≡ without (bus ∷ []) (take k r) ++ (x ∷ []) = more ∙ rw (ne_eqb x bus q) in (
-            omega (arith, w.0, ap length next, length-append (without (bus ∷ []) (take k r)) (x ∷ [])),
-            rw (next, ← e) (stored_entry t 0 (without (bus ∷ []) (take k r)) w.1 w.0 x (omega (arith, many_le))),
-          )
+    pub copied_next : (at r k ≡ bus → ⊥) → length r ≤ length t → WrittenAt (without (bus ∷ []) (take (k + 1) r)) 0 t (many + 1) (set u many (at r k))
+    copied_next q h =
+        let next : without (bus ∷ []) (take (k + 1) r) ≡ without (bus ∷ []) (take k r) ++ (at r k ∷ []) = more ∙ rw (ne_eqb (at r k) bus q) in (
+          omega (arith, w.0, ap length next, length-append (without (bus ∷ []) (take k r)) (at r k ∷ [])),
+          rw next (stored_entry t 0 (without (bus ∷ []) (take k r)) w.1 w.0 (at r k) (omega (arith, many_le))),
+        )
 
-      pub left_out : x ≡ bus → WrittenAt (without (bus ∷ []) (take (k + 1) r)) 0 t many u
-      left_out q = let same : without (bus ∷ []) (take (k + 1) r) ≡ without (bus ∷ []) (take k r) = more ∙ rw (eq-eqb x bus q) (append-nil _) in rw same w
+    pub left_out : at r k ≡ bus → WrittenAt (without (bus ∷ []) (take (k + 1) r)) 0 t many u
+    left_out q = let same : without (bus ∷ []) (take (k + 1) r) ≡ without (bus ∷ []) (take k r) = more ∙ rw (eq-eqb (at r k) bus q) (append-nil _) in rw same w
 
 pub copied_all : (r : List ℕ) (bus k : ℕ) (t : List ℕ) {many : ℕ} {u : List ℕ} → WrittenAt (without (bus ∷ []) (take k r)) 0 t many u → length r ≤ k
     → WrittenAt (without (bus ∷ []) r) 0 t many u

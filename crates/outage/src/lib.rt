@@ -39,17 +39,7 @@ fn first_above(row: &[u16], bus: usize) -> usize
     requires { Ascending row.now }
     ensures { Above row.now bus result }
 {
-    let mut low = 0;
-    let mut high = row.len();
-    while low < high {
-        let middle = low + (high - low) / 2;
-        if entry(row, middle) <= bus {
-            low = middle + 1;
-        } else {
-            high = middle;
-        }
-    }
-    low
+    row.partition_point(|&neighbour| neighbour as usize <= bus)
 }
 
 // The ends of a line. Lines are counted at their lower ends: a bus has as many there as its row has buses above it.
@@ -58,8 +48,7 @@ fn ends_of(table: &[u16], line: usize) -> Ends
     ensures { (result.lower ≡ lower_end table.now line) × (result.upper ≡ upper_end table.now line) }
 {
     let mut rest = line;
-    let mut bus = 0;
-    loop {
+    for bus in 0..bus_count(table) {
         let row = neighbours(table, bus);
         let first = first_above(row, bus);
         let above = row.len() - first;
@@ -70,8 +59,8 @@ fn ends_of(table: &[u16], line: usize) -> Ends
             };
         }
         rest -= above;
-        bus += 1;
     }
+    unreachable!()
 }
 
 // Copies a row without one bus, and gives how many are left.
@@ -80,13 +69,11 @@ fn leave_out(row: &[u16], bus: usize, left: &mut [u16]) -> usize
     ensures { WrittenAt (without (bus ∷ []) row.now) 0 left.old result left.new }
 {
     let mut many = 0;
-    let mut k = 0;
-    while k < row.len() {
-        if entry(row, k) != bus {
-            left[many] = row[k];
+    for &neighbour in row {
+        if neighbour as usize != bus {
+            left[many] = neighbour;
             many += 1;
         }
-        k += 1;
     }
     many
 }
@@ -130,11 +117,8 @@ fn store(before: &[u64], after: &[u64], n: usize, changes: &mut [i64])
     requires small { (v : ℕ) → (at before.now v < 2 ^ 63) × (at after.now v < 2 ^ 63) }
     ensures { changes.new ≡ signed_below n (λ v. difference (at after.now v) (at before.now v)) ++ drop n changes.old }
 {
-    let mut bus = 0;
-    while bus < n {
-        let change = less(after[bus], before[bus]);
-        changes[bus] = change;
-        bus += 1;
+    for bus in 0..n {
+        changes[bus] = less(after[bus], before[bus]);
     }
 }
 
@@ -145,9 +129,7 @@ pub fn study_over(table: &[u16], line: usize, over: u64, changes: &mut [i64])
     requires whole { Over table.now over × Over (without_line table.now line) over }
     ensures { changes.new ≡ signed_below (bus_count table.now) (change_over (network_of table.now) (network_of (without_line table.now line)) over) ++ drop (bus_count table.now) changes.old }
 {
-    let ends = ends_of(table, line);
-    let lower = ends.lower;
-    let upper = ends.upper;
+    let Ends { lower, upper } = ends_of(table, line);
     let mut before = [0u64; Network::BUSES];
     let mut after = [0u64; Network::BUSES];
     add_end(table, over, lower, upper, &mut before, &mut after);

@@ -67,10 +67,13 @@ module _ {t : List ℕ} (w : Scorable t) {L : ℕ} (o : Over t L) {bus : ℕ} {r
   unfolding summed numerator_over
   sum_end e l = e ∙ ap (λ r. own (game_of t) L bus + sum_by (neighbour (game_of t) L) r) (take_all _ _ (rw er at l))
 
-  -- neighbour k is bus j
-  module _ {k j : ℕ} (l : k < length r) (ej : j ≡ at r k) where
+  -- neighbour k
+  module _ {k : ℕ} (l : k < length r) where
+    abbrev j : ℕ
+    j = at r k
+
     pub neighbour_in : j < bus_count t
-    neighbour_in = valid_below (row_valid w bus b) j (rw (ej, er) (in_at (row t bus) k (rw er at l)))
+    neighbour_in = valid_below (row_valid w bus b) j (rw er (in_at (row t bus) k (rw er at l)))
 
     -- y is its weight, and x what it would give with weight 1
     module _ {x y : ℕ} (ex : x ≡ neighbour_term (need t j) (degree t j) L) (ey : y ≡ weight t j) where
@@ -84,7 +87,7 @@ module _ {t : List ℕ} (w : Scorable t) {L : ℕ} (o : Over t L) {bus : ℕ} {r
         pub sum-next : sum + y * x ≡ summed t L bus (k + 1)
         unfolding summed
         sum-next =
-            omega (arith, e, given_is, ap (neighbour (game_of t) L) (ej ∙ ap (λ r. at r k) er), sum_by_take_next (neighbour (game_of t) L) (row t bus) k (rw er at l))
+            omega (arith, e, given_is, ap (neighbour (game_of t) L) (ap (λ r. at r k) er), sum_by_take_next (neighbour (game_of t) L) (row t bus) k (rw er at l))
 
         pub sum_fits : sum + y * x ≤ most
         unfolding summed

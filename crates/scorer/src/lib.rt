@@ -22,10 +22,10 @@ ghost use Rattle.scorer.specs.ScorerWork.{degrees, Room};
 
 use network::Network;
 pub use network::Refusal;
-use network::rows::entry;
 use network::table::{bus_count, need, neighbours, weight};
 pub use share_terms::denominator;
 use share_terms::{add_terms, clear, term, unit};
+use std::array;
 use table_check::holds;
 
 // A numerator, and the number that it is over.
@@ -42,13 +42,7 @@ const DEGREES: usize = Network::LINES_AT_BUS + 1;
 fn units(over: u64) -> [u64; DEGREES]
     ensures { Tabled degrees (unit over) result }
 {
-    let mut units = [0u64; DEGREES];
-    let mut degree = 0;
-    while degree < DEGREES {
-        units[degree] = unit(over, degree);
-        degree += 1;
-    }
-    units
+    array::from_fn(|degree| unit(over, degree))
 }
 
 // Adds the terms of a bus.
@@ -71,10 +65,8 @@ pub fn score_over(table: &[u16], over: u64, numerators: &mut [u64])
     let n = bus_count(table);
     let units = units(over);
     clear(numerators, n);
-    let mut bus = 0;
-    while bus < n {
+    for bus in 0..n {
         add_bus(table, over, &units, bus, numerators);
-        bus += 1;
     }
 }
 
@@ -106,11 +98,9 @@ fn numerator(table: &[u16], over: u64, bus: usize) -> u64
 {
     let row = neighbours(table, bus);
     let mut sum = weight(table, bus) * (over - (row.len() as u64) * given(table, over, bus));
-    let mut k = 0;
-    while k < row.len() {
-        let neighbour = entry(row, k);
+    for &neighbour in row {
+        let neighbour = neighbour as usize;
         sum += weight(table, neighbour) * given(table, over, neighbour);
-        k += 1;
     }
     sum
 }

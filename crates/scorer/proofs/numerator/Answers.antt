@@ -1,4 +1,5 @@
 use Rattle.std.proofs.Common.{arith}
+use Rattle.lists.specs.Lists.{at}
 use Rattle.scorer.proofs.Summing.{rest_fits, sum_start, sum_end, neighbour_in, given_fits, sum-next, sum_fits}
 use Rattle.scorer.proofs.numerator.Goals as goal
 
@@ -10,42 +11,45 @@ pub overflow_mul-sum : goal.overflow_mul-sum
 overflow_mul-sum c =
     record { fits = omega (arith, rest_fits c.requires.0 c.requires.2 c.requires.1 c.neighbours-row.ensures c.given.ensures) }
 
-pub loop-k-init : goal.loop-k-init
-loop-k-init c =
-    (omega arith, sum_start c.requires.0 c.requires.2 c.requires.1 c.neighbours-row.ensures c.given.ensures c.weight.ensures.0)
+pub loop-neighbour-init : goal.loop-neighbour-init
+loop-neighbour-init c = sum_start c.requires.0 c.requires.2 c.requires.1 c.neighbours-row.ensures c.given.ensures c.weight.ensures.0
 
--- A neighbour.
-pub weight-requires-in-loop-k : goal.weight-requires-in-loop-k
-weight-requires-in-loop-k c =
-    (c.requires.0, neighbour_in c.requires.0 c.requires.2 c.requires.1 c.neighbours-row.ensures c.loop-k-test.true c.entry-neighbour.ensures.0)
+-- A neighbour is a bus.
+pub weight-requires-in-loop-neighbour : goal.weight-requires-in-loop-neighbour
+unfolding at
+weight-requires-in-loop-neighbour c =
+    let inside = neighbour_in c.requires.0 c.requires.2 c.requires.1 c.neighbours-row.ensures c.loop-neighbour-test.true in (c.requires.0, omega arith)
 
-pub given-requires-in-loop-k : goal.given-requires-in-loop-k
-given-requires-in-loop-k c =
-    (c.requires.0, neighbour_in c.requires.0 c.requires.2 c.requires.1 c.neighbours-row.ensures c.loop-k-test.true c.entry-neighbour.ensures.0, c.requires.2)
+pub given-requires-in-loop-neighbour : goal.given-requires-in-loop-neighbour
+unfolding at
+given-requires-in-loop-neighbour c =
+    let inside = neighbour_in c.requires.0 c.requires.2 c.requires.1 c.neighbours-row.ensures c.loop-neighbour-test.true in
+    (c.requires.0, omega arith, c.requires.2)
 
-pub overflow_mul-sum-in-loop-k : goal.overflow_mul-sum-in-loop-k
-overflow_mul-sum-in-loop-k c =
+pub overflow_mul-sum-in-loop-neighbour : goal.overflow_mul-sum-in-loop-neighbour
+unfolding at
+overflow_mul-sum-in-loop-neighbour c =
     record {
       fits = omega (
         arith,
-        given_fits c.requires.0 c.requires.2 c.requires.1 c.neighbours-row.ensures c.loop-k-test.true c.entry-neighbour.ensures.0 c.given-in-loop-k.ensures c.weight-in-loop-k.ensures.0,
+        given_fits c.requires.0 c.requires.2 c.requires.1 c.neighbours-row.ensures c.loop-neighbour-test.true c.given-in-loop-neighbour.ensures c.weight-in-loop-neighbour.ensures.0,
       );
     }
 
 pub overflow_add-sum : goal.overflow_add-sum
+unfolding at
 overflow_add-sum c =
     record {
       fits = omega (
         arith,
-        sum_fits c.requires.0 c.requires.2 c.requires.1 c.neighbours-row.ensures c.loop-k-test.true c.entry-neighbour.ensures.0 c.given-in-loop-k.ensures c.weight-in-loop-k.ensures.0 c.loop-k.invariant.1,
+        sum_fits c.requires.0 c.requires.2 c.requires.1 c.neighbours-row.ensures c.loop-neighbour-test.true c.given-in-loop-neighbour.ensures c.weight-in-loop-neighbour.ensures.0 c.loop-neighbour.invariant,
       );
     }
 
-pub loop-k-preserved : goal.loop-k-preserved
-loop-k-preserved c = (
-  omega arith,
-  sum-next c.requires.0 c.requires.2 c.requires.1 c.neighbours-row.ensures c.loop-k-test.true c.entry-neighbour.ensures.0 c.given-in-loop-k.ensures c.weight-in-loop-k.ensures.0 c.loop-k.invariant.1,
-)
+pub loop-neighbour-preserved : goal.loop-neighbour-preserved
+unfolding at
+loop-neighbour-preserved c =
+    sum-next c.requires.0 c.requires.2 c.requires.1 c.neighbours-row.ensures c.loop-neighbour-test.true c.given-in-loop-neighbour.ensures c.weight-in-loop-neighbour.ensures.0 c.loop-neighbour.invariant
 
 pub returns : goal.returns
-returns c = sum_end c.requires.0 c.requires.2 c.requires.1 c.neighbours-row.ensures c.loop-k.invariant.1 c.loop-k-test.false
+returns c = sum_end c.requires.0 c.requires.2 c.requires.1 c.neighbours-row.ensures c.loop-neighbour.invariant c.loop-neighbour-test.false

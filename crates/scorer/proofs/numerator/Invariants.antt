@@ -1,10 +1,7 @@
 -- The own term and the terms of the neighbours passed.
-use Rattle.std.proofs.Common.{◌≡◌, ◌-◌, ◌≤◌, length}
+use Rattle.std.proofs.Common.{◌≡◌}
 use Rattle.scorer.proofs.Summing.{summed}
 use Rattle.scorer.proofs.numerator.Given as goal
 
-abbrev pub invariant-loop-k : goal.invariant-loop-k
-invariant-loop-k l = (l.k ≤ length l.row) × (l.sum ≡ summed l.table l.over l.bus l.k)
-
-abbrev pub decreases-loop-k : goal.decreases-loop-k
-decreases-loop-k l = length l.row - l.k
+abbrev pub invariant-loop-neighbour : goal.invariant-loop-neighbour
+invariant-loop-neighbour l = l.sum ≡ summed l.table l.over l.bus l.neighbour-index

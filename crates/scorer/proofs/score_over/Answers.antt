@@ -7,18 +7,18 @@ use Rattle.scorer.proofs.score_over.Goals as goal
 
 pub loop-bus-init : goal.loop-bus-init
 unfolding sum_below
-loop-bus-init c = (omega arith, added_none (λ v. refl) _)
+loop-bus-init c = added_none (λ v. refl) _
 
 pub add_bus-requires-clause-tabled : goal.add_bus-requires-clause-tabled
 add_bus-requires-clause-tabled c =
     let p = c.requires in
-    (c.units-units.ensures, bus_room p.0 p.2 c.args.numerators.now c.bus_count-n.ensures.0 (omega arith) c.clear.ensures c.loop-bus.bus c.loop-bus.invariant.1 c.loop-bus-test.true)
+    (c.units-units.ensures, bus_room p.0 p.2 c.args.numerators.now c.bus_count-n.ensures.0 (omega arith) c.clear.ensures c.loop-bus.bus c.loop-bus.invariant c.loop-bus-test.true)
 
 pub loop-bus-preserved : goal.loop-bus-preserved
 loop-bus-preserved c =
-    (omega arith, bus_added (game_of c.args.table.now) c.args.over c.loop-bus.bus c.loop-bus.invariant.1 c.add_bus.ensures)
+    bus_added (game_of c.args.table.now) c.args.over c.loop-bus.bus c.loop-bus.invariant c.add_bus.ensures
 
 pub returns : goal.returns
 returns c =
     let p = c.requires in
-    all_added p.0 p.2 c.args.numerators.now c.bus_count-n.ensures.0 (omega arith) c.clear.ensures c.loop-bus.bus c.loop-bus.invariant.1 c.loop-bus.invariant.0 c.loop-bus-test.false
+    all_added p.0 p.2 c.args.numerators.now c.bus_count-n.ensures.0 (omega arith) c.clear.ensures c.loop-bus.bus c.loop-bus.invariant c.loop-bus.auto.bus-end c.loop-bus-test.false
