@@ -15,11 +15,13 @@
 --   read                 as code reads it, into numbers and slices of its own
 --   least                the law of a least common multiple
 -- A name that begins with length, at, count, has, in or of is about the length, entries, counts or members of what follows.
+pub mod Chains
 pub mod Counts
 pub mod JoinBelow
 pub mod ListBelow
 pub mod Loops
 pub mod Places
+pub mod Ranges
 pub mod Sums
 pub mod SumsBelow
 pub mod Tests
