@@ -19,15 +19,7 @@ fn equals_last(section: &[u8], k: usize) -> bool
     requires { 4 * k + 3 < length section.now }
     ensures { result ≡ equals_last section.now k }
 {
-    if k == 0 {
-        return false;
-    }
-    let ends = ends_of(section, k);
-    let last = ends_of(section, k - 1);
-    if ends.first != last.first {
-        return false;
-    }
-    ends.second == last.second
+    k > 0 && ends_of(section, k) == ends_of(section, k - 1)
 }
 
 // Counts the neighbours that m records give each of n buses. Gives how many different pairs they name.
@@ -41,15 +33,13 @@ pub fn count_neighbours(
     ensures { (result ≡ pair_count m section.now) × NeighbourCounts n m section.now counts.new }
 {
     let mut pairs = 0;
-    let mut k = 0;
-    while k < m {
+    for k in 0..m {
         if !equals_last(section, k) {
             let ends = ends_of(section, k);
             increment(counts, ends.first);
             increment(counts, ends.second);
             pairs += 1;
         }
-        k += 1;
     }
     pairs
 }
@@ -60,14 +50,12 @@ fn fill_rows(section: &[u8], n: usize, m: usize, next: &mut [u16; Network::BUSES
     requires growing_rows { GrowingRows n (λ i. length (neighbours n m section.now i)) (λ i. []) next.old rows.old }
     ensures { rows.new ≡ join_below n (neighbours n m section.now) }
 {
-    let mut k = 0;
-    while k < m {
+    for k in 0..m {
         if !equals_last(section, k) {
             let ends = ends_of(section, k);
             append(rows, next, ends.first, ends.second as u16);
             append(rows, next, ends.second, ends.first as u16);
         }
-        k += 1;
     }
 }
 

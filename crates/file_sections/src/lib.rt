@@ -14,8 +14,8 @@ ghost use Rattle.file_spec.specs.RecordOrder.{turned, falls, out_of_order};
 pub use network::{Counts, Refusal};
 use network::{Network, within};
 
-// The two bus numbers of a record.
-#[derive(Clone, Copy)]
+// The two bus numbers of a record. Records are compared by first bus, then by second.
+#[derive(Clone, Copy, PartialEq, Eq, PartialOrd, Ord)]
 pub struct Ends {
     pub first: usize,
     pub second: usize,
@@ -26,9 +26,7 @@ pub fn word(bytes: &[u8], i: usize) -> usize
     requires { i + 1 < length bytes.now }
     ensures { (result ≡ word_at bytes.now i) × (result < 65536) }
 {
-    let low = bytes[i] as usize;
-    let high = bytes[i + 1] as usize;
-    low + high * 256
+    usize::from(u16::from_le_bytes([bytes[i], bytes[i + 1]]))
 }
 
 // The need bytes of a file of n buses.
@@ -67,7 +65,7 @@ pub fn weight_in(section: &[u8], bus: usize) -> usize
     requires { 0 < length section.now → 2 * bus + 1 < length section.now }
     ensures { (result ≡ weight_in section.now bus) × (result < 65536) }
 {
-    if section.len() == 0 {
+    if section.is_empty() {
         return 1;
     }
     word(section, 2 * bus)
@@ -77,14 +75,9 @@ pub fn weight_in(section: &[u8], bus: usize) -> usize
 fn needs_in_range(needs: &[u8]) -> bool
     ensures { result ≡ needs_in_range needs.now }
 {
-    let mut bus = 0;
-    while bus < needs.len() {
-        if !within(1, Network::NEED, needs[bus] as usize) {
-            return false;
-        }
-        bus += 1;
-    }
-    true
+    needs
+        .iter()
+        .all(|need| within(1, Network::NEED, usize::from(*need)))
 }
 
 // The bus count of a file, if that and the needs are sound.
@@ -140,14 +133,7 @@ fn weights_in_range(section: &[u8], n: usize) -> bool
     requires { 2 * n ≤ length section.now }
     ensures { result ≡ weights_in_range (map_below n (weight_in section.now)) }
 {
-    let mut bus = 0;
-    while bus < n {
-        if !within(1, Network::WEIGHT, weight_in(section, bus)) {
-            return false;
-        }
-        bus += 1;
-    }
-    true
+    (0..n).all(|bus| within(1, Network::WEIGHT, weight_in(section, bus)))
 }
 
 // Whether the section of weights of a file of n buses, whose records end at place `from`, is sound, and the file ends behind it.
@@ -211,13 +197,7 @@ pub fn ends_of(section: &[u8], k: usize) -> Ends
 fn two_buses(n: usize, a: usize, b: usize) -> bool
     ensures { result ≡ two_buses n a b }
 {
-    if n <= a {
-        return false;
-    }
-    if n <= b {
-        return false;
-    }
-    a != b
+    a < n && b < n && a != b
 }
 
 // Whether each of m records names two different buses below n.
@@ -225,15 +205,10 @@ pub fn sound_ends(section: &[u8], n: usize, m: usize) -> bool
     requires { 4 * m ≤ length section.now }
     ensures { result ≡ sound_ends n m section.now }
 {
-    let mut k = 0;
-    while k < m {
+    (0..m).all(|k| {
         let ends = ends_of(section, k);
-        if !two_buses(n, ends.first, ends.second) {
-            return false;
-        }
-        k += 1;
-    }
-    true
+        two_buses(n, ends.first, ends.second)
+    })
 }
 
 // Whether record k is out of order: it names its higher bus first, or is below the one before it.
@@ -242,17 +217,7 @@ fn misplaced(section: &[u8], k: usize) -> bool
     ensures { result ≡ (turned section.now k || falls section.now k) }
 {
     let ends = ends_of(section, k);
-    if ends.second < ends.first {
-        return true;
-    }
-    if k == 0 {
-        return false;
-    }
-    let before = ends_of(section, k - 1);
-    if ends.first == before.first {
-        return ends.second < before.second;
-    }
-    ends.first < before.first
+    ends.second < ends.first || k > 0 && ends < ends_of(section, k - 1)
 }
 
 // Whether one of m records is out of order.
@@ -260,12 +225,5 @@ pub fn out_of_order(section: &[u8], m: usize) -> bool
     requires { 4 * m ≤ length section.now }
     ensures { result ≡ out_of_order m section.now }
 {
-    let mut k = 0;
-    while k < m {
-        if misplaced(section, k) {
-            return true;
-        }
-        k += 1;
-    }
-    false
+    (0..m).any(|k| misplaced(section, k))
 }

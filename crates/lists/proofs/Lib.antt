@@ -21,6 +21,7 @@ pub mod JoinBelow
 pub mod ListBelow
 pub mod Loops
 pub mod Places
+pub mod Ranges
 pub mod Sums
 pub mod SumsBelow
 pub mod Tests

@@ -40,11 +40,8 @@ fn write_changes(changes: &[i64], out: &mut [u8]) -> usize
     ensures upper_bound { result ≤ longest_changes }
 {
     let mut end = 0;
-    let mut bus = 0;
-    while bus < changes.len() {
-        let change = changes[bus];
-        end = write_change(bus, change, out, end);
-        bus += 1;
+    for (bus, change) in changes.iter().enumerate() {
+        end = write_change(bus, *change, out, end);
     }
     end
 }

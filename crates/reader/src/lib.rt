@@ -31,10 +31,8 @@ fn store_needs(needs: &[u8], table: &mut [u16])
     ensures { table.new ≡ put table.old 0 (length needs.now ∷ needs.now) }
 {
     table[0] = needs.len() as u16;
-    let mut bus = 0;
-    while bus < needs.len() {
-        table[1 + bus] = needs[bus] as u16;
-        bus += 1;
+    for (bus, need) in needs.iter().enumerate() {
+        table[1 + bus] = u16::from(*need);
     }
 }
 
@@ -43,10 +41,8 @@ fn store_weights(section: &[u8], n: usize, table: &mut [u16], from: usize)
     requires { CompleteWeights n section.now × (from + n ≤ length table.old) }
     ensures { table.new ≡ put table.old from (map_below n (weight_in section.now)) }
 {
-    let mut bus = 0;
-    while bus < n {
+    for bus in 0..n {
         table[from + bus] = weight_in(section, bus) as u16;
-        bus += 1;
     }
 }
 

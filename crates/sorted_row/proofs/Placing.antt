@@ -1,7 +1,8 @@
 -- Where a number belongs in a row that ascends.
-use Rattle.std.proofs.Common.{false, List, [], ◌∷◌, ⊎_elim, ◌≡◌, refl, sym, ap, subst, ◌∙◌, ℕ, zero, suc, ◌≤◌, ◌<◌, zero-le, suc-le-suc, not-suc-le-zero, le_of_suc-le-suc, eq-or-lt_of_le, arith, leb-true, leb-false, leb, length, take, length-take-le}
+use Rattle.std.proofs.Common.{false, List, [], ◌∷◌, ⊎_elim, ◌≡◌, refl, sym, ap, subst, ◌∙◌, ℕ, zero, suc, ◌+◌, ◌≤◌, ◌<◌, zero-le, suc-le-suc, not-suc-le-zero, le_of_suc-le-suc, eq-or-lt_of_le, arith, leb-true, leb-false, leb, length, take, length-take-le}
 use Rattle.lists.specs.Lists.{◌∈◌, has, at, Ascending, put}
 use Rattle.lists.proofs.Tests.{split}
+use Rattle.lists.proofs.Loops.{last_or}
 use Rattle.lists.proofs.Counts.{in_has, none_has}
 use Rattle.lists.proofs.Places.{at_take, in_at, count_none}
 use Rattle.sorted_row.specs.declared.Inserted.TheVariants.{Added, Present, Full}
@@ -9,24 +10,19 @@ use Rattle.sorted_row.specs.Insertion.{insert, RowAfter}
 use Rattle.sorted_row.proofs.InsertionLaws.{insert-cases}
 use Rattle.sorted_row.specs.Shifting.{Place, insert_at}
 
--- the place of x among the first `count` numbers of a row, said of the row
-pub placed : {x count p : ℕ} (row : List ℕ) → count ≤ length row → p ≤ count
-    → ((k : ℕ) → k < p → at row k < x) → ((k : ℕ) → p ≤ k → k < count → x ≤ at row k) → Place x (take count row) p
-placed {x} {count} {p} row h a low high =
-    let s = length-take-le count row h in
+-- x belongs right behind the last number that is below it, since those before that one are below x too
+pub behind_last : {x last : ℕ} {l : List ℕ} → Ascending l → last < length l → at l last < x
+    → ((k : ℕ) → last < k → k < length l → x ≤ at l k) → Place x l (last + 1)
+behind_last {x} {last} {l} r b u high =
     record {
       within = omega arith;
-      low = λ k l. rw (at_take count row k (omega arith)) (low k l);
-      high = λ k g l. rw (at_take count row k (omega arith)) (high k g (omega arith));
+      low = λ k a. let g : k < suc last = omega arith in ⊎_elim (λ q. rw q u) (λ g. omega (arith, r k last g b)) (last_or g);
+      high = λ k a c. high k (omega arith) c;
     }
 
--- where a number is below x, so are those before it
-pub low_before : {x count last : ℕ} (row : List ℕ) → count ≤ length row → Ascending (take count row) → last < count → at row last < x
-    → (k : ℕ) → k ≤ last → at row k < x
-low_before {x} {count} {last} row h r l u k a =
-    ⊎_elim (λ e. rw e u)
-    (λ b. omega (arith, r k last b (omega (arith, length-take-le count row h)), at_take count row k (omega arith), at_take count row last l))
-    (eq-or-lt_of_le a)
+-- and at the front, where none is
+pub at_front : {x : ℕ} {l : List ℕ} → ((k : ℕ) → k < length l → x ≤ at l k) → Place x l 0
+at_front high = record { within = omega arith; low = λ k a. absurd (omega arith); high = λ k _ b. high k b }
 
 -- x is not the number at its place
 abbrev Absent : ℕ → List ℕ → ℕ → Type 0

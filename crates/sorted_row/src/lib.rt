@@ -22,11 +22,7 @@ impl Inserted {
     pub fn added(self) -> bool
         ensures { result ≡ is_added self }
     {
-        match self {
-            Inserted::Added => true,
-            Inserted::Present => false,
-            Inserted::Full => false,
-        }
+        matches!(self, Inserted::Added)
     }
 }
 
@@ -35,15 +31,10 @@ fn insertion_place(row: &[u16], count: usize, x: u16) -> usize
     requires { (count ≤ length row.now) × Ascending (take count row.now) }
     ensures { Place x (take count row.now) result }
 {
-    let mut p = count;
-    while 0 < p {
-        let last = p - 1;
-        if row[last] < x {
-            return p;
-        }
-        p = last;
+    match row[..count].iter().rposition(|number| *number < x) {
+        Some(last) => last + 1,
+        None => 0,
     }
-    p
 }
 
 // Moves the numbers from place p up to `count` one slot on, and writes x at p.
@@ -51,12 +42,7 @@ fn shift_in(row: &mut [u16], p: usize, count: usize, x: u16)
     requires { (p ≤ count) × (count < length row.old) }
     ensures { row.new ≡ put row.old 0 (insert_at (take count row.old) p x) }
 {
-    let mut j = count;
-    while p < j {
-        let i = j - 1;
-        row[j] = row[i];
-        j = i;
-    }
+    row.copy_within(p..count, p + 1);
     row[p] = x;
 }
 
@@ -66,10 +52,8 @@ pub fn insert(row: &mut [u16], count: usize, x: u16) -> Inserted
     ensures { RowAfter result x (take count row.old) row.old row.new }
 {
     let p = insertion_place(row, count, x);
-    if p < count {
-        if row[p] == x {
-            return Inserted::Present;
-        }
+    if p < count && row[p] == x {
+        return Inserted::Present;
     }
     if row.len() <= count {
         return Inserted::Full;

@@ -40,9 +40,7 @@ pub fn fill_template(template: &[u8], values: &[u64], out: &mut [u8], at: usize)
 {
     let mut end = at;
     let mut next = 0;
-    let mut k = 0;
-    while k < template.len() {
-        let byte = template[k];
+    for &byte in template {
         if byte == b'#' {
             end = decimal(values[next], out, end);
             next += 1;
@@ -50,7 +48,6 @@ pub fn fill_template(template: &[u8], values: &[u64], out: &mut [u8], at: usize)
             out[end] = byte;
             end += 1;
         }
-        k += 1;
     }
     end
 }

@@ -27,10 +27,8 @@ fn write_lines(table: &[u16], over: u64, numerators: &[u64], out: &mut [u8]) -> 
 {
     let n = bus_count(table);
     let mut end = write_heading(table, over, out, 0);
-    let mut bus = 0;
-    while bus < n {
+    for bus in 0..n {
         end = write_bus(table, over, numerators[bus], bus, out, end);
-        bus += 1;
     }
     end
 }

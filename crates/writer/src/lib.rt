@@ -12,7 +12,6 @@ ghost use Rattle.writer.specs.FileFront.{front_of};
 ghost use Rattle.writer.specs.RowRecords.{record_above, row_records};
 
 pub use network::Refusal;
-use network::rows::entry;
 use network::table::{bus_count, lines, needs, neighbours, weights};
 use table_check::holds;
 
@@ -21,8 +20,9 @@ fn write_word(number: usize, out: &mut [u8], at: usize) -> usize
     requires { (number < 65536) × (at + 2 ≤ length out.old) }
     ensures { WrittenAt (word number) at out.old result out.new }
 {
-    out[at] = (number % 256) as u8;
-    out[at + 1] = (number / 256) as u8;
+    let [low, high] = (number as u16).to_le_bytes();
+    out[at] = low;
+    out[at + 1] = high;
     at + 2
 }
 
@@ -31,10 +31,8 @@ fn write_needs(needs: &[u16], out: &mut [u8], at: usize) -> usize
     requires { NeedsInRange needs.now × (at + length needs.now ≤ length out.old) }
     ensures { WrittenAt needs.now at out.old result out.new }
 {
-    let mut bus = 0;
-    while bus < needs.len() {
-        out[at + bus] = needs[bus] as u8;
-        bus += 1;
+    for (bus, need) in needs.iter().enumerate() {
+        out[at + bus] = *need as u8;
     }
     at + needs.len()
 }
@@ -57,10 +55,8 @@ fn write_row(row: &[u16], bus: usize, out: &mut [u8], at: usize) -> usize
     ensures { WrittenAt (row_records bus row.now) at out.old result out.new }
 {
     let mut end = at;
-    let mut k = 0;
-    while k < row.len() {
-        end = write_pair(bus, entry(row, k), out, end);
-        k += 1;
+    for neighbour in row {
+        end = write_pair(bus, usize::from(*neighbour), out, end);
     }
     end
 }
@@ -72,10 +68,8 @@ fn write_pairs(table: &[u16], out: &mut [u8], at: usize) -> usize
 {
     let n = bus_count(table);
     let mut end = at;
-    let mut bus = 0;
-    while bus < n {
+    for bus in 0..n {
         end = write_row(neighbours(table, bus), bus, out, end);
-        bus += 1;
     }
     end
 }
@@ -95,14 +89,7 @@ fn write_front(table: &[u16], out: &mut [u8]) -> usize
 fn all_ones(weights: &[u16]) -> bool
     ensures { result ≡ all_ones weights.now }
 {
-    let mut bus = 0;
-    while bus < weights.len() {
-        if entry(weights, bus) != 1 {
-            return false;
-        }
-        bus += 1;
-    }
-    true
+    weights.iter().all(|weight| *weight == 1)
 }
 
 // Writes each weight in two bytes, and gives the place behind them.
@@ -111,10 +98,8 @@ fn write_weights(weights: &[u16], out: &mut [u8], at: usize) -> usize
     ensures { WrittenAt (words weights.now) at out.old result out.new }
 {
     let mut end = at;
-    let mut bus = 0;
-    while bus < weights.len() {
-        end = write_word(entry(weights, bus), out, end);
-        bus += 1;
+    for weight in weights {
+        end = write_word(usize::from(*weight), out, end);
     }
     end
 }

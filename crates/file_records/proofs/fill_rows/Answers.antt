@@ -1,4 +1,4 @@
-use Rattle.std.proofs.Common.{◌≡◌, false, true, length, refl, sym, ◌∙◌, arith}
+use Rattle.std.proofs.Common.{◌≡◌, false, true, length, refl, sym, ◌∙◌, ◌<◌, arith}
 use Rattle.lists.proofs.Loops.{by_end}
 use Rattle.row_builder.specs.GrowingRows.{GrowingRows}
 use Rattle.row_builder.proofs.GrowingLaws.{growing_same, growing_done}
@@ -9,25 +9,25 @@ use Rattle.file_records.proofs.fill_rows.Goals as goal
 use Rattle.file_records.proofs.fill_rows.Goals.{then-not-equals_last, else-not-equals_last}
 
 pub loop-k-init : goal.loop-k-init
-loop-k-init c = (omega arith, growing_same c.requires.growing_rows _ (λ i b. sym (neighbours-none _ _ i)))
+loop-k-init c = growing_same c.requires.growing_rows _ (λ i b. sym (neighbours-none _ _ i))
 
 pub append-requires : goal.append-requires
 append-requires c =
     let g = c.requires.m_in_bounds.1 in
-    let l = c.loop-k-test.true in
+    let l : c.loop-k.k < c.args.m = omega arith in
     let e = c.ends_of-ends.ensures in
     let new : repeats c.args.section.now c.loop-k.k ≡ false = sym (repeats-last g l) ∙ sym c.equals_last.ensures ∙ c.if-not-equals_last.true in
-    let f = first_fits g l e new c.loop-k.invariant.1 in
+    let f = first_fits g l e new c.loop-k.invariant in
     (omega (arith, first_bus g l e, g.buses), f.0, f.1)
 
 pub append-requires-then-not-equals_last : goal.append-requires-then-not-equals_last
 append-requires-then-not-equals_last c =
     let g = c.requires.m_in_bounds.1 in
-    let l = c.loop-k-test.true in
+    let l : c.loop-k.k < c.args.m = omega arith in
     let e = c.ends_of-ends.ensures in
     let new : repeats c.args.section.now c.loop-k.k ≡ false = sym (repeats-last g l) ∙ sym c.equals_last.ensures ∙ c.if-not-equals_last.true in
     let a = c.append.ensures in
-    let f = second_fits g l e new (first-grown g l e new c.loop-k.invariant.1 a.rows_after a.next_after) in
+    let f = second_fits g l e new (first-grown g l e new c.loop-k.invariant a.rows_after a.next_after) in
     (omega (arith, second_bus g l e, g.buses), f.0, f.1)
 
 pub loop-k-preserved : goal.loop-k-preserved
@@ -35,7 +35,7 @@ loop-k-preserved c =
     let r = c.args.section.now in
     let v = c.loop-k in
     let g = c.requires.m_in_bounds.1 in
-    let l = c.loop-k-test.true in
+    let l : c.loop-k.k < c.args.m = omega arith in
     let again = repeats-last g l in
     elim c.if-not-equals_last.branch [
       | then-not-equals_last w ↦
@@ -43,11 +43,11 @@ loop-k-preserved c =
           let e = w.ends_of-ends.ensures in
           let a = w.append.ensures in
           let b = w.append-then-not-equals_last.ensures in
-          let one = first-grown g l e new v.invariant.1 a.rows_after a.next_after in
-          (omega arith, rw (w.next-is, w.rows-is) (second_grown g l e new one b.rows_after b.next_after))
+          let one = first-grown g l e new v.invariant a.rows_after a.next_after in
+          rw (w.next-is, w.rows-is) (second_grown g l e new one b.rows_after b.next_after)
       | else-not-equals_last w ↦
           let old : repeats r v.k ≡ true = sym again ∙ sym c.equals_last.ensures ∙ w.if-not-equals_last.false in
-          (omega arith, rw (w.next-is, w.rows-is) (growing_same v.invariant.1 _ (λ i _. sym (neighbours_again _ _ _ old i))))
+          rw (w.next-is, w.rows-is) (growing_same v.invariant _ (λ i _. sym (neighbours_again _ _ _ old i)))
     ]
 
 pub returns : goal.returns
@@ -55,5 +55,5 @@ returns c =
     let n = c.args.n in
     let r = c.args.section.now in
     let v = c.loop-k in
-    let w = by_end (λ k. GrowingRows n (λ i. length (neighbours n c.args.m r i)) (neighbours n k r) v.next v.rows) v.invariant.1 v.invariant.0 c.loop-k-test.false in
+    let w = by_end (λ k. GrowingRows n (λ i. length (neighbours n c.args.m r i)) (neighbours n k r) v.next v.rows) v.invariant (omega arith) (omega arith) in
     growing_done w (λ i b. refl)

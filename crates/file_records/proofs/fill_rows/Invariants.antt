@@ -1,12 +1,9 @@
 -- Each row has the neighbours of the records passed.
-use Rattle.std.proofs.Common.{◌-◌, ◌≤◌, length}
+use Rattle.std.proofs.Common.{length}
 use Rattle.row_builder.specs.GrowingRows.{GrowingRows}
 use Rattle.file_spec.specs.Records.{neighbours}
 use Rattle.file_records.proofs.fill_rows.Given as goal
 
 abbrev pub invariant-loop-k : goal.invariant-loop-k
 invariant-loop-k l =
-    (l.k ≤ l.m) × GrowingRows l.n (λ i. length (neighbours l.n l.m l.section i)) (neighbours l.n l.k l.section) l.next l.rows
-
-abbrev pub decreases-loop-k : goal.decreases-loop-k
-decreases-loop-k l = l.m - l.k
+    GrowingRows l.n (λ i. length (neighbours l.n l.m l.section i)) (neighbours l.n l.k l.section) l.next l.rows

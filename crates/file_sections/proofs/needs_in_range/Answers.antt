@@ -1,20 +1,14 @@
-use Rattle.std.proofs.Common.{sym, ◌∙◌, arith}
+use Rattle.std.proofs.Common.{◌∙◌, rules, tests}
+use Rattle.std.proofs.lemmas.Iterator.{YieldsList-from_slice}
+use Rattle.std.proofs.lemmas.Iterator.Search.{all_from_yields_List}
 use Rattle.lists.specs.Lists.{at}
-use Rattle.lists.proofs.Loops.{all_below_start, all_below_more, all_below_fails, all_below_done}
-use Rattle.table_spec.specs.Holds.{in_range}
+use Rattle.lists.proofs.Chains.{all_list}
+use Rattle.table_spec.specs.Limits.{max_need}
+use Rattle.table_spec.specs.Holds.{within, in_range}
 use Rattle.file_sections.proofs.needs_in_range.Goals as goal
 
-pub loop-bus-init : goal.loop-bus-init
-loop-bus-init c = (omega arith, all_below_start _)
-
-pub returns-then-not-within : goal.returns-then-not-within
-unfolding in_range at
-returns-then-not-within c = sym (all_below_fails _ _ _ c.loop-bus-test.true (sym c.within.ensures ∙ c.if-not-within.true))
-
-pub loop-bus-preserved : goal.loop-bus-preserved
-unfolding at
-loop-bus-preserved c = (omega arith, all_below_more _ _ c.loop-bus.invariant.1 (sym c.within.ensures ∙ c.if-not-within.false))
-
 pub returns : goal.returns
-unfolding in_range
-returns c = sym (all_below_done _ _ _ c.loop-bus.invariant.1 c.loop-bus.invariant.0 c.loop-bus-test.false)
+unfolding in_range at
+returns c =
+    all_from_yields_List (within 1 max_need) _ _ _ c.all.ensures.ran (YieldsList-from_slice c.args.needs.now cc) (λ x b q k. search (rules, tests))
+    ∙ all_list _ c.args.needs.now 0

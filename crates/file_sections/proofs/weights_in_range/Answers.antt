@@ -1,26 +1,17 @@
-use Rattle.std.proofs.Common.{◌≡◌, sym, ap, ◌∙◌, arith}
-use Rattle.lists.proofs.Loops.{all_below_start, all_below_more, all_below_fails, all_below_done}
+use Rattle.std.proofs.Common.{◌∙◌, refl, sym, rules, tests, arith}
+use Rattle.std.proofs.lemmas.Iterator.{YieldsList-from_range}
+use Rattle.std.proofs.lemmas.Iterator.Search.{all_from_yields_List}
+use Rattle.lists.proofs.Ranges.{all_range}
 use Rattle.table_spec.specs.Limits.{max_weight}
 use Rattle.table_spec.specs.Holds.{within}
 use Rattle.file_spec.specs.FileBytes.{weight_in}
 use Rattle.file_spec.proofs.WeightBytes.{weights-range}
 use Rattle.file_sections.proofs.weights_in_range.Goals as goal
 
-pub loop-bus-init : goal.loop-bus-init
-loop-bus-init c = (omega arith, all_below_start _)
-
--- the weight of a bus is judged as read
-pub returns-then-not-within : goal.returns-then-not-within
-returns-then-not-within c =
-    let judged : c.within.result ≡ within 1 max_weight (weight_in c.args.section.now c.loop-bus.bus) =
-    c.within.ensures ∙ ap (within 1 max_weight) c.weight_in.ensures.0 in
-    sym (weights-range _ _ ∙ all_below_fails _ _ _ c.loop-bus-test.true (sym judged ∙ c.if-not-within.true))
-
-pub loop-bus-preserved : goal.loop-bus-preserved
-loop-bus-preserved c =
-    let judged : c.within.result ≡ within 1 max_weight (weight_in c.args.section.now c.loop-bus.bus) =
-    c.within.ensures ∙ ap (within 1 max_weight) c.weight_in.ensures.0 in
-    (omega arith, all_below_more _ _ c.loop-bus.invariant.1 (sym judged ∙ c.if-not-within.false))
-
 pub returns : goal.returns
-returns c = sym (weights-range _ _ ∙ all_below_done _ _ _ c.loop-bus.invariant.1 c.loop-bus.invariant.0 c.loop-bus-test.false)
+returns c =
+    let n = c.args.n in
+    let b = c.args.section.now in
+    all_from_yields_List (λ i. within 1 max_weight (weight_in b i)) _ _ _ c.all.ensures.ran (YieldsList-from_range 0 n n refl (omega arith)) (λ x b q k. search (rules, tests))
+    ∙ all_range _ n
+    ∙ sym (weights-range b n)

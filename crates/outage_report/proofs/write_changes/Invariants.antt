@@ -1,4 +1,3 @@
-use Rattle.std.proofs.Common.{◌-◌, ◌≤◌, length}
 use Rattle.lists.specs.Lists.{WrittenAt}
 use Rattle.lists.specs.Below.{join_below}
 use Rattle.signed.specs.Signed.{signed_at}
@@ -7,7 +6,4 @@ use Rattle.outage_report.proofs.write_changes.Given as goal
 
 -- The lines of the buses passed are written.
 abbrev pub invariant-loop-bus : goal.invariant-loop-bus
-invariant-loop-bus l = (l.bus ≤ length l.changes) × WrittenAt (join_below l.bus (λ v. line_of v (signed_at l.changes v))) 0 l.initial.out l.end l.out
-
-abbrev pub decreases-loop-bus : goal.decreases-loop-bus
-decreases-loop-bus l = length l.changes - l.bus
+invariant-loop-bus l = WrittenAt (join_below l.bus (λ v. line_of v (signed_at l.changes v))) 0 l.initial.out l.end l.out

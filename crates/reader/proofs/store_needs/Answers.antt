@@ -7,15 +7,14 @@ use Rattle.reader.proofs.store_needs.Goals as goal
 pub loop-bus-init : goal.loop-bus-init
 loop-bus-init c =
     let t = c.args.table.now in
-    (omega arith, stored_entry t 0 [] (sym (put-none t 0)) refl (length c.args.needs.now) (omega (arith, c.requires.1)))
+    stored_entry t 0 [] (sym (put-none t 0)) refl (length c.args.needs.now) (omega (arith, c.requires.1))
 
 pub loop-bus-preserved : goal.loop-bus-preserved
 unfolding at
 loop-bus-preserved c =
     let q = c.args.needs.now in
     let v = c.loop-bus in
-    let next : 1 + v.bus ≡ 0 + length (length q ∷ take v.bus q) = omega (arith, length-take-le v.bus q v.invariant.0) in (
-      omega arith,
-      stored_entry _ _ _ v.invariant.1 next _ (omega (arith, c.requires.1))
-          ∙ ap (put c.args.table.now 0) (ap (λ l. length q ∷ l) (sym (take_next v.bus q (omega arith)))),
-    )
+    let next : 1 + v.bus ≡ 0 + length (length q ∷ take v.bus q) = omega (arith, length-take-le v.bus q (omega arith)) in
+    rw c.from.ensures
+    (stored_entry _ _ _ v.invariant next _ (omega (arith, c.requires.1))
+    ∙ ap (put c.args.table.now 0) (ap (λ l. length q ∷ l) (sym (take_next v.bus q (omega arith)))))

@@ -9,16 +9,14 @@ use Rattle.reader.proofs.store_weights.Goals as goal
 
 pub loop-bus-init : goal.loop-bus-init
 unfolding map_below join_below
-loop-bus-init c = (omega arith, sym (put-none _ _))
+loop-bus-init c = sym (put-none _ _)
 
 pub loop-bus-preserved : goal.loop-bus-preserved
 loop-bus-preserved c =
     let a = c.args in
     let v = c.loop-bus in
     let w = weight_in a.section.now in
-    let next : a.from + v.bus ≡ a.from + length (map_below v.bus w) = omega (arith, length-map_below v.bus w) in (
-      omega arith,
-      stored_entry _ _ _ v.invariant.1 next _ (omega (arith, c.requires.1))
-          ∙ ap (λ x. put a.table.now a.from (map_below v.bus w ++ (x ∷ []))) c.weight_in.ensures.0
-          ∙ ap (put a.table.now a.from) (sym (map_below-next v.bus w)),
-    )
+    let next : a.from + v.bus ≡ a.from + length (map_below v.bus w) = omega (arith, length-map_below v.bus w) in
+    stored_entry _ _ _ v.invariant next _ (omega (arith, c.requires.1))
+    ∙ ap (λ x. put a.table.now a.from (map_below v.bus w ++ (x ∷ []))) c.weight_in.ensures.0
+    ∙ ap (put a.table.now a.from) (sym (map_below-next v.bus w))

@@ -1,4 +1,4 @@
-use Rattle.std.proofs.Common.{◌≡◌, ◌<◌, refl, arith, rules}
+use Rattle.std.proofs.Common.{◌≡◌, ◌<◌, refl, arith}
 use Rattle.lists.specs.Lists.{at}
 use Rattle.lists.proofs.Writes.{written_start, written_next}
 use Rattle.table_spec.specs.Layout.{bus_count}
@@ -7,22 +7,21 @@ use Rattle.whole_sheet.proofs.SheetWriting.{all-written}
 use Rattle.whole_sheet.proofs.write_lines.Goals as goal
 
 pub loop-bus-init : goal.loop-bus-init
-loop-bus-init c = (search rules, written_start _ _ _, omega arith)
+loop-bus-init c = (written_start _ _ _, omega arith)
 
 pub write_bus-end-requires-clause-over_value : goal.write_bus-end-requires-clause-over_value
 unfolding at
 write_bus-end-requires-clause-over_value c =
-    let b : c.loop-bus.bus < bus_count c.args.table.now = omega (arith, c.loop-bus-test.true, c.bus_count-n.ensures.0) in
+    let b : c.loop-bus.bus < bus_count c.args.table.now = omega (arith, c.bus_count-n.ensures.0) in
     (c.requires.1.over, c.requires.1.each c.loop-bus.bus b)
 
 pub loop-bus-preserved : goal.loop-bus-preserved
 loop-bus-preserved c = (
-  search rules,
-  written_next _ _ _ c.loop-bus.invariant.1 (omega (arith, c.write_heading-end.ensures.upper_bound, c.write_heading-end.auto.out, c.requires.2)) refl c.write_bus-end.ensures.written_at,
-  omega (arith, c.write_bus-end.ensures.upper_bound, c.loop-bus.invariant.2),
+  written_next _ _ _ c.loop-bus.invariant.0 (omega (arith, c.write_heading-end.ensures.upper_bound, c.write_heading-end.auto.out, c.requires.2)) refl c.write_bus-end.ensures.written_at,
+  omega (arith, c.write_bus-end.ensures.upper_bound, c.loop-bus.invariant.1),
 )
 
 pub returns-clause-written_at : goal.returns-clause-written_at
 returns-clause-written_at c =
-    let all : c.loop-bus.bus ≡ bus_count c.args.table.now = omega (arith, c.bus_count-n.ensures.0, c.loop-bus.invariant.0, c.loop-bus-test.false) in
-    all-written (network_of c.args.table.now) c.args.out.now c.write_heading-end.ensures.written_at all c.loop-bus.invariant.1
+    let all : c.loop-bus.bus ≡ bus_count c.args.table.now = omega (arith, c.bus_count-n.ensures.0) in
+    all-written (network_of c.args.table.now) c.args.out.now c.write_heading-end.ensures.written_at all c.loop-bus.invariant.0

@@ -1,4 +1,4 @@
-use Rattle.std.proofs.Common.{◌+◌, ◌-◌, ◌*◌, ◌≤◌}
+use Rattle.std.proofs.Common.{◌+◌, ◌*◌, ◌≤◌}
 use Rattle.lists.specs.Lists.{WrittenAt}
 use Rattle.two_way.specs.TwoWay.{network_of}
 use Rattle.sheet.specs.LineRoom.{longest_line}
@@ -7,7 +7,4 @@ use Rattle.whole_sheet.proofs.write_lines.Given as goal
 
 -- The lines of the buses passed are written behind the heading.
 abbrev pub invariant-loop-bus : goal.invariant-loop-bus
-invariant-loop-bus l = (l.bus ≤ l.n) × WrittenAt (bus_lines (network_of l.table) l.bus) l.initial.end l.initial.out l.end l.out × (l.end ≤ l.initial.end + longest_line * l.bus)
-
-abbrev pub decreases-loop-bus : goal.decreases-loop-bus
-decreases-loop-bus l = l.n - l.bus
+invariant-loop-bus l = WrittenAt (bus_lines (network_of l.table) l.bus) l.initial.end l.initial.out l.end l.out × (l.end ≤ l.initial.end + longest_line * l.bus)

@@ -15,4 +15,4 @@ unfolding at
 loop-bus-preserved c = copied_entry _ _ _ c.loop-bus.invariant refl c.requires.1 (omega arith)
 
 pub returns : goal.returns
-returns c = (refl, copied_all _ _ _ c.loop-bus.invariant c.loop-bus-test.false)
+returns c = (refl, copied_all _ _ _ c.loop-bus.invariant (omega arith))

@@ -9,7 +9,7 @@ use Rattle.writer.proofs.FileWriting.{records_by_row}
 use Rattle.writer.proofs.write_pairs.Goals as goal
 
 pub loop-bus-init : goal.loop-bus-init
-loop-bus-init c = (omega arith, written_start _ _ _)
+loop-bus-init c = written_start _ _ _
 
 -- the records are written bus by bus, and all fit
 fits_by_row : (t : List ℕ) (n at size : ℕ) → Holds t → n ≡ bus_count t → at + length (pair_records (bus_count t) (row t)) ≤ size
@@ -19,14 +19,14 @@ fits_by_row t n at size held e room = omega (arith, room, ap length (records_by_
 pub write_row-end-requires : goal.write_row-end-requires
 write_row-end-requires c =
     let room = fits_by_row c.args.table.now _ c.args.at _ c.requires.0 c.bus_count-n.ensures.0 c.requires.1 in
-    written_fits _ _ _ c.loop-bus.invariant.1 _ room c.loop-bus-test.true (ap (row_records _) c.neighbours.ensures)
+    written_fits _ _ _ c.loop-bus.invariant _ room (omega arith) (ap (row_records _) c.neighbours.ensures)
 
 pub loop-bus-preserved : goal.loop-bus-preserved
 loop-bus-preserved c =
     let room = fits_by_row c.args.table.now _ c.args.at _ c.requires.0 c.bus_count-n.ensures.0 c.requires.1 in
-    (omega arith, written_next _ _ _ c.loop-bus.invariant.1 (omega (arith, room)) (ap (row_records _) c.neighbours.ensures) c.write_row-end.ensures)
+    written_next _ _ _ c.loop-bus.invariant (omega (arith, room)) (ap (row_records _) c.neighbours.ensures) c.write_row-end.ensures
 
 pub returns : goal.returns
 returns c =
     rw (records_by_row c.args.table.now c.requires.0 c.bus_count-n.ensures.0)
-    (written_done _ _ _ c.loop-bus.invariant.1 _ c.loop-bus.invariant.0 c.loop-bus-test.false)
+    (written_done _ _ _ c.loop-bus.invariant _ (omega arith) (omega arith))

@@ -1,26 +1,25 @@
-use Rattle.std.proofs.Common.{◌+◌, ◌≤◌, length, ap, arith}
+use Rattle.std.proofs.Common.{◌+◌, ◌≤◌, length, ap, arith, rules}
 use Rattle.lists.specs.Lists.{at}
 use Rattle.lists.specs.Below.{join_below}
 use Rattle.lists.proofs.Writes.{written_start, written_next, written_done, written_fits}
 use Rattle.write_spec.specs.FileOf.{word, words}
 use Rattle.writer.proofs.write_weights.Goals as goal
 
-pub loop-bus-init : goal.loop-bus-init
-loop-bus-init c = (omega arith, written_start _ _ _)
+pub loop-weight-init : goal.loop-weight-init
+loop-weight-init c = written_start _ _ _
 
 -- all weights fit
 pub write_word-end-requires : goal.write_word-end-requires
-unfolding words word
+unfolding words at word
 write_word-end-requires c =
-    let e = c.entry.ensures in
-    (e.1, written_fits _ _ _ c.loop-bus.invariant.1 (length c.args.weights.now) c.requires (omega arith) (ap word e.0))
+    (search rules, written_fits _ _ _ c.loop-weight.invariant (length c.args.weights.now) c.requires (omega arith) (ap word c.from.ensures))
 
-pub loop-bus-preserved : goal.loop-bus-preserved
-unfolding words
-loop-bus-preserved c =
+pub loop-weight-preserved : goal.loop-weight-preserved
+unfolding words at
+loop-weight-preserved c =
     let room : c.args.at + length (join_below (length c.args.weights.now) (λ i. word (at c.args.weights.now i))) ≤ length c.args.out.now = c.requires in
-    (omega arith, written_next _ _ _ c.loop-bus.invariant.1 (omega (arith, room)) (ap word c.entry.ensures.0) c.write_word-end.ensures)
+    written_next _ _ _ c.loop-weight.invariant (omega (arith, room)) (ap word c.from.ensures) c.write_word-end.ensures
 
 pub returns : goal.returns
-unfolding words
-returns c = written_done _ _ _ c.loop-bus.invariant.1 _ c.loop-bus.invariant.0 c.loop-bus-test.false
+unfolding words at
+returns c = written_done _ _ _ c.loop-weight.invariant _ (omega arith) (omega arith)
