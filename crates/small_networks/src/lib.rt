@@ -16,7 +16,7 @@ pub const MOST: usize = 7;
 #[derive(Clone, Copy)]
 pub struct Small {
     pub buses: usize,
-    pub needs: [u8; MOST],
+    pub needs: [u16; MOST],
     pub weights: [u16; MOST],
     pub neighbours: [u32; MOST],
 }
@@ -55,5 +55,5 @@ pub fn neighbours(lower: &[u32; MOST], buses: usize) -> [u32; MOST]
 pub fn size(set: u32) -> u32
     ensures { result ≤ 32 }
 {
-    u32::count_ones(set)
+    set.count_ones()
 }
