@@ -73,8 +73,8 @@ fn table_case(rt: &impl Print, label: &str, file: &[u8], table: &mut [u16]) -> i
 }
 
 // Bus 0 with lines to the first buses after it, all needs 1.
-fn star_case(rt: &impl Print, label: &str, buses: usize, lines: usize) -> io::Result<()>
-    requires { 4 + buses + 4 * lines ≤ 1024 }
+fn star_case(rt: &impl Print, label: &str, buses: u16, lines: u16) -> io::Result<()>
+    requires { 4 + buses + 4 * lines ≤ BYTES }
 {
     let mut file = [0u8; BYTES];
     let bytes = write_star(&mut file, buses, lines);
@@ -102,7 +102,7 @@ fn star_of_24(rt: &impl Print) -> io::Result<()> {
 
 // Path, with another end of its second record or a byte more, into some entries.
 fn path_case(rt: &impl Print, label: &str, end: u8, bytes: usize, lent: usize) -> io::Result<()>
-    requires { (bytes ≤ 16) × (lent ≤ 2048) }
+    requires { (bytes ≤ 16) × (lent ≤ ENTRIES) }
 {
     let file = path_to(end);
     let mut table = [MARK; ENTRIES];

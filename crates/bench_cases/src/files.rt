@@ -25,31 +25,32 @@ pub fn weighted_path_to(end: u8, count: u16, weight: u16) -> [u8; 24] {
 }
 
 // The bus count, and needs of 1.
-fn write_buses(file: &mut [u8], buses: usize)
-    requires { (2 + buses ≤ length file.old) × (buses < 65536) }
+fn write_buses(file: &mut [u8], buses: u16)
+    requires { 2 + buses ≤ length file.old }
 {
-    write_word(file, 0, buses as u16);
-    file[2..2 + buses].fill(1);
+    write_word(file, 0, buses);
+    file[2..2 + usize::from(buses)].fill(1);
 }
 
 // The line count, and records of lines from bus 0 to the buses after it.
-fn write_records(file: &mut [u8], lines: usize)
-    requires { (2 + 4 * lines ≤ length file.old) × (lines < 65536) }
+fn write_records(file: &mut [u8], lines: u16)
+    requires { 2 + 4 * lines ≤ length file.old }
 {
-    write_word(file, 0, lines as u16);
+    write_word(file, 0, lines);
     for line in 0..lines {
-        write_word(file, 2 + 4 * line, 0);
-        write_word(file, 4 + 4 * line, 1 + line as u16);
+        let record = 2 + 4 * usize::from(line);
+        write_word(file, record, 0);
+        write_word(file, record + 2, 1 + line);
     }
 }
 
 // The file of a star, some of whose buses may stand alone. Gives its byte count.
-pub fn write_star(file: &mut [u8], buses: usize, lines: usize) -> usize
-    requires { (4 + buses + 4 * lines ≤ length file.old) × (buses < 65536) × (lines < 65536) }
+pub fn write_star(file: &mut [u8], buses: u16, lines: u16) -> usize
+    requires { 4 + buses + 4 * lines ≤ length file.old }
     ensures { result ≡ 4 + buses + 4 * lines }
 {
     write_buses(file, buses);
-    let records = 2 + buses;
+    let records = 2 + usize::from(buses);
     write_records(&mut file[records..], lines);
-    records + 2 + 4 * lines
+    records + 2 + 4 * usize::from(lines)
 }

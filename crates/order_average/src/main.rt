@@ -5,14 +5,13 @@
 #![tactic(auto)]
 
 ghost use Rattle.std.specs.Prelude.{◌<◌, ◌≤◌};
-ghost use Rattle.small_networks.specs.SizeBounds.{most};
 
 use refusals::Refusal;
 use scorer::{AllShares, BusShare, OneShare};
 use small_networks::average::{Gains, all_orders};
 use small_networks::choice::Draws;
 use small_networks::table::{ENTRIES, table};
-use small_networks::{MOST, Small, choice, has, only, size};
+use small_networks::{MOST, Small, choice};
 use std::fmt;
 
 // What is counted.
@@ -134,7 +133,7 @@ struct Shares {
 
 impl Shares {
     fn of_bus(self, bus: usize) -> BusShare
-        requires { bus < most }
+        requires { bus < MOST }
     {
         BusShare {
             numerator: self.numerators[bus],
@@ -162,13 +161,12 @@ fn is_share(table: &[u16; ENTRIES], bus: usize, share: BusShare) -> bool {
 // A share by the first game's formula, 1/(d + 1) for the bus and each neighbour, each times its weight: wrong where needs are
 // not 1.
 fn wrong_share(small: Small, bus: usize, over: u64) -> BusShare
-    requires { (small.buses ≤ most) × (bus < most) }
+    requires { (small.buses ≤ MOST) × (bus < MOST) }
 {
-    let with_bus = small.neighbours[bus] | only(bus);
     let mut numerator = 0u64;
     for other in 0..small.buses {
-        if has(with_bus, other) {
-            let part = over / u64::from(size(small.neighbours[other]) + 1);
+        if other == bus || small.neighbours[bus].has(other) {
+            let part = over / u64::from(small.neighbours[other].size() + 1);
             let weighted = part.saturating_mul(u64::from(small.weights[other]));
             numerator = numerator.saturating_add(weighted);
         }
@@ -185,9 +183,9 @@ fn compare_bus(
     share: BusShare,
     average: Average,
 )
-    requires { (small.buses ≤ most) × (bus < most) }
+    requires { (small.buses ≤ MOST) × (bus < MOST) }
 {
-    let degree = size(small.neighbours[bus]);
+    let degree = small.neighbours[bus].size();
     counts.needs.count(u32::from(small.needs[bus]), degree);
     if !is_average(share, average) || !is_share(table, bus, share) {
         count(&mut counts.different, 1);
@@ -199,7 +197,7 @@ fn compare_bus(
 
 // The average of the gains of a bus.
 fn average_of(gains: Gains, bus: usize) -> Average
-    requires { bus < most }
+    requires { bus < MOST }
 {
     Average {
         sum: gains.sums[bus],
@@ -210,7 +208,7 @@ fn average_of(gains: Gains, bus: usize) -> Average
 // Compares the shares of a network, of which all orders were gone through. Where Shares refuses it, so does Share, and each
 // of its buses counts as different.
 fn compare_shares(counts: &mut Counts, small: Small, gains: Gains)
-    requires { small.buses ≤ most }
+    requires { small.buses ≤ MOST }
 {
     let table = table(small);
     let shares = shares_of(&table).unwrap_or_default();
@@ -223,7 +221,7 @@ fn compare_shares(counts: &mut Counts, small: Small, gains: Gains)
 // Compares the averages with the shares without weights, each times its bus's own weight: wrong where neighbours have other
 // weights, since the term for a neighbour takes the neighbour's.
 fn compare_own_weights(counts: &mut Counts, small: Small, gains: Gains)
-    requires { small.buses ≤ most }
+    requires { small.buses ≤ MOST }
 {
     let shares = shares_of(&table(choice::unweighted(small))).unwrap_or_default();
     for bus in 0..small.buses {
@@ -243,14 +241,14 @@ fn compare_own_weights(counts: &mut Counts, small: Small, gains: Gains)
 
 // Whether Shares finds no network in the table.
 fn is_refused(small: Small) -> bool
-    requires { small.buses ≤ most }
+    requires { small.buses ≤ MOST }
 {
     matches!(shares_of(&table(small)), Err(Refusal::NoNetwork))
 }
 
 // Raises the need of each bus in turn until it cannot be met.
 fn raise_needs(counts: &mut Counts, small: Small)
-    requires { small.buses ≤ most }
+    requires { small.buses ≤ MOST }
 {
     for bus in 0..small.buses {
         count(&mut counts.unmet, 1);
@@ -262,7 +260,7 @@ fn raise_needs(counts: &mut Counts, small: Small)
 
 // Gives a bus a weight that none may have.
 fn take_out_of_range(counts: &mut Counts, small: Small, bus: usize, weight: u16)
-    requires { (small.buses ≤ most) × (bus < most) }
+    requires { (small.buses ≤ MOST) × (bus < MOST) }
 {
     count(&mut counts.out_of_range, 1);
     if !is_refused(choice::reweighted(small, bus, weight)) {
@@ -272,7 +270,7 @@ fn take_out_of_range(counts: &mut Counts, small: Small, bus: usize, weight: u16)
 
 // Gives each bus in turn weight 0, and one above the highest.
 fn change_weights(counts: &mut Counts, small: Small)
-    requires { small.buses ≤ most }
+    requires { small.buses ≤ MOST }
 {
     for bus in 0..small.buses {
         take_out_of_range(counts, small, bus, 0);
@@ -281,7 +279,7 @@ fn change_weights(counts: &mut Counts, small: Small)
 }
 
 fn compare(counts: &mut Counts, small: Small)
-    requires { small.buses ≤ most }
+    requires { small.buses ≤ MOST }
 {
     let gains = all_orders(small);
     count(&mut counts.networks, 1);

@@ -5,20 +5,19 @@
 // is that of exactly one number of which nothing is left, as digits are, and each order has exactly one such row; so every
 // order comes once.
 ghost use Rattle.std.specs.Prelude.{◌<◌, ◌≤◌, length};
-ghost use Rattle.small_networks.specs.SizeBounds.{most};
 
-use crate::{MOST, Small, has, only, size};
+use crate::{BusSet, MOST, Small};
 
 // Whether a bus is seen: it carries a recorder, or at least as many of its neighbours as its need do.
-fn is_seen(small: Small, fitted: u32, bus: usize) -> bool
-    requires { bus < most }
+fn is_seen(small: Small, fitted: BusSet, bus: usize) -> bool
+    requires { bus < MOST }
 {
-    has(fitted, bus) || size(small.neighbours[bus] & fitted) >= u32::from(small.needs[bus])
+    fitted.has(bus) || small.neighbours[bus].shared(fitted) >= u32::from(small.needs[bus])
 }
 
 // The value of a set of recorders: the weights of the buses that are seen, added up.
-fn value(small: Small, fitted: u32) -> u32
-    requires { small.buses ≤ most }
+fn value(small: Small, fitted: BusSet) -> u32
+    requires { small.buses ≤ MOST }
 {
     let mut sum = 0;
     for (bus, weight) in small.weights[..small.buses].iter().enumerate() {
@@ -31,17 +30,17 @@ fn value(small: Small, fitted: u32) -> u32
 
 // Weights added up.
 fn total_weight(weights: &[u16]) -> u32
-    requires { length weights.now ≤ most }
+    requires { length weights.now ≤ MOST }
 {
     weights.iter().map(|weight| u32::from(*weight)).sum()
 }
 
 // The lowest bus not yet fitted, after so many of them are passed over.
-fn next(fitted: u32, passed: u32) -> usize
-    ensures { result < most }
+fn next(fitted: BusSet, passed: u32) -> usize
+    ensures { result < MOST }
 {
     (0..MOST)
-        .filter(|bus| !has(fitted, *bus))
+        .filter(|bus| !fitted.has(*bus))
         .nth(passed as usize)
         .unwrap_or(0)
 }
@@ -54,15 +53,15 @@ fn has_order(buses: u32, number: u32) -> bool {
 // Fits the buses in the order of a number, adds each bus's gain to its sum, and gives the sum of all gains. A gain is how much
 // the value rises; were it to fall, the gain would wrap and be no small number.
 fn fit(small: Small, number: u32, sums: &mut [u32; MOST]) -> u32
-    requires { small.buses ≤ most }
+    requires { small.buses ≤ MOST }
 {
-    let mut fitted = 0;
+    let mut fitted = BusSet::default();
     let mut before = value(small, fitted);
     let mut gains = 0u32;
     let mut rest = number;
     for left in (1..=small.buses as u32).rev() {
         let bus = next(fitted, rest % left);
-        fitted |= only(bus);
+        fitted.insert(bus);
         let after = value(small, fitted);
         let gain = after.wrapping_sub(before);
         sums[bus] = sums[bus].wrapping_add(gain);
@@ -87,7 +86,7 @@ const LIMIT: u32 = 10_000;
 
 // Goes through all orders: up to the first number that is that of none.
 pub fn all_orders(small: Small) -> Gains
-    requires { small.buses ≤ most }
+    requires { small.buses ≤ MOST }
 {
     let buses = small.buses as u32;
     let orders = (0..LIMIT)

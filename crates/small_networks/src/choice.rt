@@ -1,13 +1,17 @@
 // Which networks are compared: all small ones with need 1 and weight 1, and some with needs, lines and weights drawn by chance
 // from a fixed seed.
 ghost use Rattle.std.specs.Prelude.{◌≡◌, ◌<◌, ◌≤◌};
-ghost use Rattle.small_networks.specs.SizeBounds.{most};
 
-use crate::{MOST, Small, neighbours, size};
+use crate::{BusSet, MOST, Small, neighbours};
 use std::array;
 
 // Sets of buses.
 const SETS: u64 = 1 << MOST;
+
+// The set that a number's last digits say.
+fn set_of(digits: u64) -> BusSet {
+    BusSet((digits % SETS) as u32)
+}
 
 // How many sets of lines there are between the buses, for up to five.
 pub fn line_sets(buses: usize) -> u64 {
@@ -23,13 +27,13 @@ pub fn line_sets(buses: usize) -> u64 {
 // The network of a number below that, with need 1 and weight 1 everywhere. Its binary digits say which lines there are: one
 // digit for bus 1, two for bus 2, and so on, each for a bus of a lower number.
 pub fn numbered(buses: usize, number: u64) -> Small
-    requires { buses ≤ most }
+    requires { buses ≤ MOST }
     ensures { result.buses ≡ buses }
 {
     let mut rest = number;
-    let mut lower = [0u32; MOST];
+    let mut lower = [BusSet::default(); MOST];
     for (bus, set) in lower.iter_mut().enumerate() {
-        *set = (rest % SETS) as u32;
+        *set = set_of(rest);
         rest >>= bus;
     }
     Small {
@@ -104,33 +108,32 @@ impl Density {
         }
     }
 
-    // The set of the buses at whose place about a quarter, half or three quarters of the numbers have a 1: both of two digits
-    // drawn, one, or either of two.
-    fn set(self, drawn: u64) -> u32 {
-        let digits = match self {
+    // A set of about a quarter, half or three quarters of the buses: those at whose place both of two digits drawn are 1, one
+    // is, or either of two.
+    fn set(self, drawn: u64) -> BusSet {
+        set_of(match self {
             Density::Few => drawn & drawn >> MOST,
             Density::Half => drawn,
             Density::Most => drawn | drawn >> MOST,
-        };
-        (digits % SETS) as u32
+        })
     }
 }
 
 // Lines to buses of lower numbers. Bus 0 has none, so what is drawn for it says how many the others have.
-fn lower(drawn: [u64; MOST]) -> [u32; MOST] {
+fn lower(drawn: [u64; MOST]) -> [BusSet; MOST] {
     let density = Density::of(drawn[0]);
     drawn.map(|number| density.set(number))
 }
 
 // The highest need that can be met at a bus with these neighbours: as many as they are, but 1 where there are none.
-fn highest(neighbours: u32) -> u32
+fn highest(neighbours: BusSet) -> u32
     ensures { (1 ≤ result) × (result ≤ 32) }
 {
-    size(neighbours).max(1)
+    neighbours.size().max(1)
 }
 
 // Needs from 1 to the highest that can be met.
-fn needs(drawn: [u64; MOST], neighbours: [u32; MOST]) -> [u16; MOST] {
+fn needs(drawn: [u64; MOST], neighbours: [BusSet; MOST]) -> [u16; MOST] {
     array::from_fn(|bus| (1 + drawn[bus] % u64::from(highest(neighbours[bus]))) as u16)
 }
 
@@ -143,7 +146,7 @@ fn weights(drawn: [u64; MOST]) -> [u16; MOST] {
 }
 
 pub fn chosen(buses: usize, draws: Draws) -> Small
-    requires { buses ≤ most }
+    requires { buses ≤ MOST }
     ensures { result.buses ≡ buses }
 {
     let neighbours = neighbours(&lower(draws.lines), buses);
@@ -157,7 +160,7 @@ pub fn chosen(buses: usize, draws: Draws) -> Small
 
 // The same network with a need that cannot be met: at one bus, one above the highest that can.
 pub fn raised(mut small: Small, bus: usize) -> Small
-    requires { bus < most }
+    requires { bus < MOST }
     ensures { result.buses ≡ small.buses }
 {
     small.needs[bus] = (highest(small.neighbours[bus]) + 1) as u16;
@@ -176,7 +179,7 @@ pub fn unweighted(small: Small) -> Small
 
 // The same network with another weight at one bus.
 pub fn reweighted(mut small: Small, bus: usize, weight: u16) -> Small
-    requires { bus < most }
+    requires { bus < MOST }
     ensures { result.buses ≡ small.buses }
 {
     small.weights[bus] = weight;

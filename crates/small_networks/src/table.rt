@@ -1,20 +1,19 @@
 // The line table of a network.
 ghost use Rattle.std.specs.Prelude.{◌+◌, ◌<◌, ◌≤◌};
-ghost use Rattle.small_networks.specs.SizeBounds.{most, entries};
 
-use crate::{MOST, Small, has};
+use crate::{MOST, Small};
 
 // Entries for the bus count, the needs, the weights, the row starts, and as many neighbours of each bus as there are buses.
 pub const ENTRIES: usize = 1 + MOST + MOST + (MOST + 1) + MOST * MOST;
 
 // Lays the neighbours of a bus from a place on, and gives the place behind them.
 fn lay_row(table: &mut [u16; ENTRIES], small: Small, bus: usize, start: usize) -> usize
-    requires { (small.buses ≤ most) × (bus < most) × (start + most ≤ entries) }
-    ensures { (start ≤ result) × (result ≤ start + most) }
+    requires { (small.buses ≤ MOST) × (bus < MOST) × (start + MOST ≤ ENTRIES) }
+    ensures { (start ≤ result) × (result ≤ start + MOST) }
 {
     let mut place = start;
     for other in 0..small.buses {
-        if has(small.neighbours[bus], other) {
+        if small.neighbours[bus].has(other) {
             table[place] = other as u16;
             place += 1;
         }
@@ -24,7 +23,7 @@ fn lay_row(table: &mut [u16; ENTRIES], small: Small, bus: usize, start: usize) -
 
 // Lays the row starts, of which the first stays 0, and the rows.
 fn lay_rows(table: &mut [u16; ENTRIES], small: Small)
-    requires { small.buses ≤ most }
+    requires { small.buses ≤ MOST }
 {
     let starts = 1 + 2 * small.buses;
     let links = starts + small.buses + 1;
@@ -36,7 +35,7 @@ fn lay_rows(table: &mut [u16; ENTRIES], small: Small)
 }
 
 pub fn table(small: Small) -> [u16; ENTRIES]
-    requires { small.buses ≤ most }
+    requires { small.buses ≤ MOST }
 {
     let buses = small.buses;
     let mut table = [0u16; ENTRIES];
