@@ -57,9 +57,8 @@ fn draw(state: u64) -> u64 {
 }
 
 // A draw for each bus, the first from this state.
-fn draw_all(state: u64) -> [u64; MOST] {
+fn draw_all(mut state: u64) -> [u64; MOST] {
     let mut drawn = [0u64; MOST];
-    let mut state = state;
     for number in drawn.iter_mut() {
         state = draw(state);
         *number = state;

@@ -68,8 +68,8 @@ fn fail<W: Write>(errors: &mut W, name: &str, what: &str, error: Error) {
     let _ = writeln!(errors);
 }
 
-// Runs a program: reads standard input into a buffer, says what may be wrong with the network file in it, which stands behind so many bytes, or is all of
-// an input that is too short for them, and has the program print its answer to the input.
+// Runs a program on standard input: reads it into a buffer, warns of the network file in it, which begins behind so many bytes, and has the program print
+// its answer. An input that is too short for those bytes is taken for a file whole.
 pub fn run<F: FnOnce(&[u8], &mut Stdout) -> io::Result<()>>(
     rt: &HostRuntime,
     name: &str,
