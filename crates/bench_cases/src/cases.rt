@@ -2,11 +2,10 @@
 // what it answers and leaves.
 ghost use Rattle.std.specs.Prelude.{◌+◌, ◌*◌, ◌≤◌, ◌<◌, length};
 
+use super::answers::{cancel, read, share, shares};
 use super::files::{path_to, weighted_path_to, write_star};
-use super::text::{say, say_changed, say_entries, say_number, say_refused};
-use fraction::{Cancelled, cancel};
-use reader::{Reading, read};
-use scorer::{AllShares, OneShare, share, shares};
+use super::text::{Answer, Changed, Entries, Over, Pair, Read, Share};
+use std::io;
 
 // What lent entries hold before a call, and none of these calls stores.
 const MARK: u16 = 54321;
@@ -20,257 +19,164 @@ const NUMERATORS: usize = 32;
 
 const BYTES: usize = 1024;
 
-// Up to where a call changed entries: those beyond hold the mark.
-fn changed(entries: &[u16]) -> usize
-    ensures { result ≤ length entries.now }
-{
-    let mut end = 0;
-    let mut i = 0;
-    while i < entries.len() {
-        if entries[i] != MARK {
-            end = i + 1;
-        }
-        i += 1;
-    }
-    end
-}
-
-// The same for numerators.
-fn changed_numerators(numerators: &[u64]) -> usize {
-    let mut end = 0;
-    let mut i = 0;
-    while i < numerators.len() {
-        if numerators[i] != NUMERATOR_MARK {
-            end = i + 1;
-        }
-        i += 1;
-    }
-    end
-}
-
-// How many numerators are like the first.
-fn equal_leaves(numerators: &[u64]) -> usize {
-    let mut count = 0;
-    let mut i = 0;
-    while i < numerators.len() {
-        if numerators[i] == numerators[0] {
-            count += 1;
-        }
-        i += 1;
-    }
-    count
-}
-
-// Whether Share gives this numerator.
-fn agrees(table: &[u16], bus: usize, numerator: u64) -> bool {
-    match share(table, bus) {
-        OneShare::Refused(_) => false,
-        OneShare::Is(one, _) => one == numerator,
-    }
+// How many of the leaves are given what the first is.
+fn equal_leaves(leaves: &[u64]) -> usize {
+    leaves.iter().filter(|leaf| **leaf == leaves[0]).count()
 }
 
 // How many numerators are what Share gives for their buses.
 fn agreeing(table: &[u16], numerators: &[u64]) -> usize {
-    let mut count = 0;
-    let mut bus = 0;
-    while bus < numerators.len() {
-        if agrees(table, bus, numerators[bus]) {
-            count += 1;
-        }
-        bus += 1;
-    }
-    count
+    numerators
+        .iter()
+        .enumerate()
+        .filter(|(bus, numerator)| {
+            share(table, *bus).is_ok_and(|share| share.numerator == **numerator)
+        })
+        .count()
 }
 
-// Cancel, and its answer.
-fn say_cancelled(rt: &impl Print, numerator: u64, denominator: u64) {
-    match cancel(numerator, denominator) {
-        Cancelled::Refused(cause) => say_refused(rt, cause),
-        Cancelled::Pair(top, bottom) => {
-            say_number(rt, "", top);
-            say_number(rt, "/", bottom);
-        }
-    }
-}
-
-// Read into marked entries, its answer, and up to where they changed, which is given too.
-fn say_read(rt: &impl Print, file: &[u8], table: &mut [u16]) -> usize
-    ensures { result ≤ length table.new }
+// Read into marked entries: its answer, and up to where they changed.
+fn read_marked(file: &[u8], table: &mut [u16]) -> (Answer<Read>, Changed)
+    ensures { result.1.0 ≤ length table.new }
 {
-    match read(file, table) {
-        Reading::Refused(cause) => say_refused(rt, cause),
-        Reading::Accepted(counts) => {
-            say_number(rt, "read, buses ", counts.buses as u64);
-            say_number(rt, ", lines ", counts.lines as u64);
-        }
-    }
-    let end = changed(table);
-    say_changed(rt, end);
-    end
+    let answer = Answer(read(file, table).map(Read));
+    (answer, Changed::of(table, MARK))
 }
 
-// The same, and the entries up to there.
-fn say_table(rt: &impl Print, file: &[u8], table: &mut [u16]) {
-    let end = say_read(rt, file, table);
-    if end > 0 {
-        say(rt, ":");
-        say_entries(rt, &table[0..end]);
-    }
+// The same of Shares.
+fn shares_marked(table: &[u16], numerators: &mut [u64]) -> (Answer<Over>, Changed) {
+    let answer = Answer(shares(table, numerators).map(Over));
+    (answer, Changed::of(numerators, NUMERATOR_MARK))
 }
 
-// Shares into marked numerators, its answer, and up to where they changed.
-fn say_shares(rt: &impl Print, table: &[u16], numerators: &mut [u64]) {
-    match shares(table, numerators) {
-        AllShares::Refused(cause) => say_refused(rt, cause),
-        AllShares::Over(denominator) => say_number(rt, "L ", denominator),
-    }
-    say_changed(rt, changed_numerators(numerators));
+fn share_of(table: &[u16], bus: usize) -> Answer<Share> {
+    Answer(share(table, bus).map(Share))
 }
 
-// Share, and its answer with the pair cancelled.
-fn say_share(rt: &impl Print, table: &[u16], bus: usize) {
-    match share(table, bus) {
-        OneShare::Refused(cause) => say_refused(rt, cause),
-        OneShare::Is(numerator, denominator) => {
-            say_number(rt, "", numerator);
-            say(rt, " = ");
-            say_cancelled(rt, numerator, denominator);
-        }
-    }
-}
-
-fn cancel_case(rt: &impl Print) {
-    say(rt, "Cancel 0/0: ");
-    say_cancelled(rt, 0, 0);
-    say(rt, "\n");
+fn cancel_case(rt: &impl Print) -> io::Result<()> {
+    let cancelled = Answer(cancel(0, 0).map(Pair));
+    println!(rt; "Cancel 0/0: {cancelled}")
 }
 
 // A file into entries enough.
-fn file_case(rt: &impl Print, label: &str, file: &[u8]) {
+fn file_case(rt: &impl Print, label: &str, file: &[u8]) -> io::Result<()> {
     let mut table = [MARK; ENTRIES];
-    say(rt, label);
-    say_read(rt, file, &mut table);
-    say(rt, "\n");
+    let (answer, changed) = read_marked(file, &mut table);
+    println!(rt; "{label}: {answer}{changed}")
+}
+
+// A file into some entries, and what they hold up to where they changed.
+fn table_case(rt: &impl Print, label: &str, file: &[u8], table: &mut [u16]) -> io::Result<()> {
+    let (answer, changed) = read_marked(file, table);
+    let entries = Entries(&table[..changed.0]);
+    println!(rt; "{label}: {answer}{changed}{entries}")
 }
 
 // Bus 0 with lines to the first buses after it, all needs 1.
-fn star_case(rt: &impl Print, label: &str, buses: usize, lines: usize)
-    requires { 4 + buses + 4 * lines ≤ 1024 }
+fn star_case(rt: &impl Print, label: &str, buses: u16, lines: u16) -> io::Result<()>
+    requires { 4 + buses + 4 * lines ≤ BYTES }
 {
     let mut file = [0u8; BYTES];
     let bytes = write_star(&mut file, buses, lines);
-    file_case(rt, label, &file[0..bytes]);
+    file_case(rt, label, &file[..bytes])
 }
 
-fn star_of_24(rt: &impl Print) {
+fn star_of_24(rt: &impl Print) -> io::Result<()> {
     let mut file = [0u8; BYTES];
     let bytes = write_star(&mut file, 24, 23);
     let mut table = [MARK; ENTRIES];
+    let (answer, changed) = read_marked(&file[..bytes], &mut table);
+    println!(rt; "24-bus star, Read: {answer}{changed}")?;
     let mut numerators = [NUMERATOR_MARK; NUMERATORS];
-    say(rt, "24-bus star, Read: ");
-    say_read(rt, &file[0..bytes], &mut table);
-    say(rt, "\n24-bus star, Shares: ");
-    say_shares(rt, &table, &mut numerators);
-    say_number(rt, ", centre ", numerators[0]);
-    say_number(rt, ", leaf ", numerators[1]);
-    say_number(
-        rt,
-        ", leaves like it ",
-        equal_leaves(&numerators[1..24]) as u64,
-    );
-    say(rt, "\n24-bus star, Share: centre ");
-    say_share(rt, &table, 0);
-    say(rt, ", leaf ");
-    say_share(rt, &table, 1);
-    say_number(
-        rt,
-        ", buses as in Shares ",
-        agreeing(&table, &numerators[0..24]) as u64,
-    );
-    say(rt, "\n");
+    let (answer, changed) = shares_marked(&table, &mut numerators);
+    let equal = equal_leaves(&numerators[1..24]);
+    println!(rt;
+        "24-bus star, Shares: {answer}{changed}, centre {}, leaf {}, leaves like it {equal}",
+        numerators[0], numerators[1]
+    )?;
+    let centre = share_of(&table, 0);
+    let leaf = share_of(&table, 1);
+    let agreeing = agreeing(&table, &numerators[..24]);
+    println!(rt; "24-bus star, Share: centre {centre}, leaf {leaf}, buses as in Shares {agreeing}")
 }
 
 // Path, with another end of its second record or a byte more, into some entries.
-fn path_case(rt: &impl Print, label: &str, end: u8, bytes: usize, lent: usize)
-    requires { (bytes ≤ 16) × (lent ≤ 2048) }
+fn path_case(rt: &impl Print, label: &str, end: u8, bytes: usize, lent: usize) -> io::Result<()>
+    requires { (bytes ≤ 16) × (lent ≤ ENTRIES) }
 {
     let file = path_to(end);
     let mut table = [MARK; ENTRIES];
-    say(rt, label);
-    say_table(rt, &file[0..bytes], &mut table[0..lent]);
-    say(rt, "\n");
+    table_case(rt, label, &file[..bytes], &mut table[..lent])
 }
 
 // Path with weights, its second record to `end`: up to some byte of the weight count, the weights, of which bus 1 has the one
 // given, or a byte more.
-fn weights_case(rt: &impl Print, label: &str, end: u8, count: usize, weight: usize, bytes: usize)
-    requires { (count < 65536) × (weight < 65536) × (bytes ≤ 24) }
+fn weights_case(
+    rt: &impl Print,
+    label: &str,
+    end: u8,
+    count: u16,
+    weight: u16,
+    bytes: usize,
+) -> io::Result<()>
+    requires { bytes ≤ 24 }
 {
     let file = weighted_path_to(end, count, weight);
     let mut table = [MARK; ENTRIES];
-    say(rt, label);
-    say_table(rt, &file[0..bytes], &mut table);
-    say(rt, "\n");
+    table_case(rt, label, &file[..bytes], &mut table)
 }
 
-fn weighted_shares(rt: &impl Print) {
+fn weighted_shares(rt: &impl Print) -> io::Result<()> {
     let file = weighted_path_to(2, 3, 5);
     let mut table = [MARK; ENTRIES];
+    table_case(rt, "weights 1, 5, 2, Read", &file[..23], &mut table)?;
     let mut numerators = [NUMERATOR_MARK; NUMERATORS];
-    say(rt, "weights 1, 5, 2, Read: ");
-    say_table(rt, &file[0..23], &mut table);
-    say(rt, "\nweights 1, 5, 2, Shares: ");
-    say_shares(rt, &table, &mut numerators);
-    say_number(rt, ": ", numerators[0]);
-    say_number(rt, " ", numerators[1]);
-    say_number(rt, " ", numerators[2]);
-    say_number(
-        rt,
-        ", buses as in Share ",
-        agreeing(&table, &numerators[0..3]) as u64,
-    );
-    say(rt, "\n");
+    let (answer, changed) = shares_marked(&table, &mut numerators);
+    let agreeing = agreeing(&table, &numerators[..3]);
+    println!(rt;
+        "weights 1, 5, 2, Shares: {answer}{changed}: {} {} {}, buses as in Share {agreeing}",
+        numerators[0], numerators[1], numerators[2]
+    )
 }
 
 // A section of weights, cut short or wrong in each of its places; and with a wrong record, which is judged behind it.
-fn weight_section(rt: &impl Print) {
-    weights_case(rt, "weights 1, 1000, 2: ", 2, 3, 1000, 23);
-    weights_case(rt, "weights 1, 1, 2 and one byte more: ", 2, 3, 1, 24);
-    weights_case(rt, "a weight count and no weights: ", 2, 3, 5, 17);
-    weights_case(rt, "weights without their last byte: ", 2, 3, 5, 22);
-    weights_case(rt, "weight count 2: ", 2, 2, 5, 23);
-    weights_case(rt, "weight count 4 and no weights: ", 2, 4, 5, 17);
-    weights_case(rt, "weight count 259: ", 2, 259, 5, 23);
-    weights_case(rt, "weight 0: ", 2, 3, 0, 23);
-    weights_case(rt, "weight 1001: ", 2, 3, 1001, 23);
-    weights_case(rt, "weight 0 and one byte more: ", 2, 3, 0, 24);
-    weights_case(rt, "weight 0, second record made 1, 1: ", 1, 3, 0, 23);
-    weights_case(rt, "weight 5, second record made 1, 1: ", 1, 3, 5, 23);
+fn weight_section(rt: &impl Print) -> io::Result<()> {
+    weights_case(rt, "weights 1, 1000, 2", 2, 3, 1000, 23)?;
+    weights_case(rt, "weights 1, 1, 2 and one byte more", 2, 3, 1, 24)?;
+    weights_case(rt, "a weight count and no weights", 2, 3, 5, 17)?;
+    weights_case(rt, "weights without their last byte", 2, 3, 5, 22)?;
+    weights_case(rt, "weight count 2", 2, 2, 5, 23)?;
+    weights_case(rt, "weight count 4 and no weights", 2, 4, 5, 17)?;
+    weights_case(rt, "weight count 259", 2, 259, 5, 23)?;
+    weights_case(rt, "weight 0", 2, 3, 0, 23)?;
+    weights_case(rt, "weight 1001", 2, 3, 1001, 23)?;
+    weights_case(rt, "weight 0 and one byte more", 2, 3, 0, 24)?;
+    weights_case(rt, "weight 0, second record made 1, 1", 1, 3, 0, 23)?;
+    weights_case(rt, "weight 5, second record made 1, 1", 1, 3, 5, 23)
 }
 
-fn empty_table_case(rt: &impl Print) {
+fn empty_table_case(rt: &impl Print) -> io::Result<()> {
     let mut numerators = [NUMERATOR_MARK; NUMERATORS];
-    say(rt, "an empty slice given to Shares: ");
-    say_shares(rt, &[], &mut numerators);
-    say(rt, "\n");
+    let (answer, changed) = shares_marked(&[], &mut numerators);
+    println!(rt; "an empty slice given to Shares: {answer}{changed}")
 }
 
 // Runs all of them.
-pub fn run(rt: &impl Print) {
-    cancel_case(rt);
-    star_of_24(rt);
-    star_case(rt, "25-bus star: ", 25, 24);
-    star_case(rt, "n = 512: ", 512, 0);
-    file_case(rt, "n = 513 in a file of two bytes: ", &[1, 2]);
-    file_case(rt, "m = 5889 with no records: ", &[1, 0, 1, 1, 23]);
-    file_case(rt, "empty file: ", &[]);
-    path_case(rt, "Path with one byte more: ", 2, 16, ENTRIES);
-    path_case(rt, "second record made 1, 1: ", 1, 15, ENTRIES);
-    path_case(rt, "second record made 1, 3: ", 3, 15, ENTRIES);
-    path_case(rt, "second record made 1, 0: ", 0, 15, ENTRIES);
-    path_case(rt, "Path into 14 entries: ", 2, 15, 14);
-    path_case(rt, "Path into 15 entries: ", 2, 15, 15);
-    empty_table_case(rt);
-    weighted_shares(rt);
-    weight_section(rt);
+pub fn run(rt: &impl Print) -> io::Result<()> {
+    cancel_case(rt)?;
+    star_of_24(rt)?;
+    star_case(rt, "25-bus star", 25, 24)?;
+    star_case(rt, "n = 512", 512, 0)?;
+    file_case(rt, "n = 513 in a file of two bytes", &[1, 2])?;
+    file_case(rt, "m = 5889 with no records", &[1, 0, 1, 1, 23])?;
+    file_case(rt, "empty file", &[])?;
+    path_case(rt, "Path with one byte more", 2, 16, ENTRIES)?;
+    path_case(rt, "second record made 1, 1", 1, 15, ENTRIES)?;
+    path_case(rt, "second record made 1, 3", 3, 15, ENTRIES)?;
+    path_case(rt, "second record made 1, 0", 0, 15, ENTRIES)?;
+    path_case(rt, "Path into 14 entries", 2, 15, 14)?;
+    path_case(rt, "Path into 15 entries", 2, 15, 15)?;
+    empty_table_case(rt)?;
+    weighted_shares(rt)?;
+    weight_section(rt)
 }

@@ -2,10 +2,12 @@
 // `starred_cases`.
 #![tactic(auto)]
 
+mod answers;
 mod cases;
 mod files;
 mod text;
 
+// Whether all could be printed is seen where the output is compared.
 fn main(rt: HostRuntime) {
-    cases::run(&rt);
+    let _ = cases::run(&rt);
 }

@@ -1,36 +1,108 @@
-// What a line is made of: words, numbers, refusals.
+// How answers are printed, and what was lent.
+ghost use Rattle.std.specs.Prelude.{◌≤◌, length};
+
+use super::answers::cancel;
+use fraction::Lowest;
+use reader::Counts;
 use refusals::Refusal;
+use scorer::BusShare;
+use std::fmt;
+use std::fmt::{Display, Formatter, Write};
 
-// Whether it could be printed is seen where the output is compared.
-pub fn say(rt: &impl Print, text: &str) {
-    let _ = rt.print(text);
-}
+// What a call answers, or the number of the cause that refuses it.
+#[derive(Drop)]
+pub struct Answer<T>(pub Result<T, Refusal>);
 
-pub fn say_number(rt: &impl Print, words: &str, n: u64) {
-    let _ = print!(rt; "{words}{n}");
-}
-
-pub fn say_refused(rt: &impl Print, cause: Refusal) {
-    say_number(rt, "refused ", cause.number() as u64);
-}
-
-// Up to where a call changed the entries lent.
-pub fn say_changed(rt: &impl Print, end: usize) {
-    say(rt, ", nothing changed");
-    if end > 0 {
-        say_number(rt, " beyond ", end as u64);
-        say(rt, " entries");
+impl<T: Display> Display for Answer<T> {
+    fn fmt<W: Write>(&self, f: &mut Formatter<W>) -> fmt::Result {
+        match &self.0 {
+            Ok(given) => write!(f, "{given}"),
+            Err(cause) => write!(f, "refused {}", cause.number()),
+        }
     }
 }
 
-fn say_entry(rt: &impl Print, entry: u16) {
-    say_number(rt, " ", entry as u64);
+// What Read answers.
+#[derive(Clone, Copy)]
+pub struct Read(pub Counts);
+
+impl Display for Read {
+    fn fmt<W: Write>(&self, f: &mut Formatter<W>) -> fmt::Result {
+        write!(f, "read, buses {}, lines {}", self.0.buses, self.0.lines)
+    }
 }
 
-pub fn say_entries(rt: &impl Print, entries: &[u16]) {
-    let mut i = 0;
-    while i < entries.len() {
-        say_entry(rt, entries[i]);
-        i += 1;
+// What Shares answers.
+#[derive(Clone, Copy)]
+pub struct Over(pub u64);
+
+impl Display for Over {
+    fn fmt<W: Write>(&self, f: &mut Formatter<W>) -> fmt::Result {
+        write!(f, "L {}", self.0)
+    }
+}
+
+// What Cancel answers.
+#[derive(Clone, Copy)]
+pub struct Pair(pub Lowest);
+
+impl Display for Pair {
+    fn fmt<W: Write>(&self, f: &mut Formatter<W>) -> fmt::Result {
+        write!(f, "{}/{}", self.0.top, self.0.bottom)
+    }
+}
+
+// What Share answers, with the pair cancelled.
+#[derive(Clone, Copy)]
+pub struct Share(pub BusShare);
+
+impl Display for Share {
+    fn fmt<W: Write>(&self, f: &mut Formatter<W>) -> fmt::Result {
+        let BusShare { numerator, over } = self.0;
+        let cancelled = Answer(cancel(numerator, over).map(Pair));
+        write!(f, "{numerator} = {cancelled}")
+    }
+}
+
+// Up to where a call changed what it was lent.
+#[derive(Clone, Copy)]
+pub struct Changed(pub usize);
+
+impl Changed {
+    // What was lent held the mark everywhere before the call.
+    pub fn of<T: Copy + PartialEq>(lent: &[T], mark: T) -> Changed
+        ensures { result.0 ≤ length lent.now }
+    {
+        Changed(
+            lent.iter()
+                .rposition(|entry| *entry != mark)
+                .map_or(0, |last| last + 1),
+        )
+    }
+}
+
+impl Display for Changed {
+    fn fmt<W: Write>(&self, f: &mut Formatter<W>) -> fmt::Result {
+        write!(f, ", nothing changed")?;
+        if self.0 > 0 {
+            write!(f, " beyond {} entries", self.0)?;
+        }
+        Ok(())
+    }
+}
+
+// Entries behind a colon; nothing if there are none.
+#[derive(Clone, Copy)]
+pub struct Entries<'a>(pub &'a [u16]);
+
+impl Display for Entries<'_> {
+    fn fmt<W: Write>(&self, f: &mut Formatter<W>) -> fmt::Result {
+        if !self.0.is_empty() {
+            write!(f, ":")?;
+        }
+        for entry in self.0 {
+            write!(f, " {entry}")?;
+        }
+        Ok(())
     }
 }

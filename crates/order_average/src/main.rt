@@ -5,226 +5,272 @@
 #![tactic(auto)]
 
 ghost use Rattle.std.specs.Prelude.{◌<◌, ◌≤◌};
-ghost use Rattle.small_networks.specs.SizeBounds.{most};
-ghost use Rattle.order_average.specs.CountBounds.{counted};
 
-use scorer::{AllShares, OneShare};
+use refusals::Refusal;
+use scorer::{AllShares, BusShare, OneShare};
 use small_networks::average::{Gains, all_orders};
-use small_networks::choice::DRAWS;
+use small_networks::choice::Draws;
 use small_networks::table::{ENTRIES, table};
-use small_networks::{MOST, Small, choice, has, only, size};
-use std::num::wrapping_add_u64;
+use small_networks::{MOST, Small, choice};
+use std::fmt;
 
-// What is counted. Networks; orders gone through, and those whose gains do not add up to the total weight; buses whose need is
-// above their degree, as it is without lines, equal to it, 1 and below it, or between 1 and it; shares that are not the average,
-// and shares by each wrong formula that are not; networks with a need that cannot be met, and with a weight out of range, and
-// those of them that are not refused.
-const NETWORKS: usize = 0;
-
-const ORDERS: usize = 1;
-
-const UNEVEN: usize = 2;
-
-const ABOVE: usize = 3;
-
-const EQUAL: usize = 4;
-
-const ONE: usize = 5;
-
-const BETWEEN: usize = 6;
-
-const DIFFERENT: usize = 7;
-
-const WRONG: usize = 8;
-
-const OWN_WEIGHT: usize = 9;
-
-const UNMET: usize = 10;
-
-const UNMET_TAKEN: usize = 11;
-
-const OUT_OF_RANGE: usize = 12;
-
-const OUT_OF_RANGE_TAKEN: usize = 13;
-
-const COUNTED: usize = 14;
-
-// Adds to a count. None comes near the numbers where a sum would wrap.
-fn count(counts: &mut [u64; COUNTED], what: usize, more: u32)
-    requires { what < counted }
-{
-    counts[what] = wrapping_add_u64(counts[what], more as u64);
+// What is counted.
+#[derive(Clone, Copy, Default)]
+struct Counts {
+    networks: u64,
+    // Orders gone through, and those whose gains do not add up to the total weight.
+    orders: u64,
+    uneven: u64,
+    // Buses by how their need stands to their degree.
+    needs: Needs,
+    // Shares that are not the average, and shares by each wrong formula that are not.
+    different: u64,
+    wrong: u64,
+    own_weight: u64,
+    // Networks with a need that cannot be met, and those of them that are not refused.
+    unmet: u64,
+    unmet_taken: u64,
+    // Networks with a weight out of range, and those of them that are not refused.
+    out_of_range: u64,
+    out_of_range_taken: u64,
 }
 
-// What a bus of this need and degree is counted as.
-fn kind(need: u32, degree: u32) -> usize
-    ensures { result < counted }
-{
-    if need > degree {
-        ABOVE
-    } else if need == degree {
-        EQUAL
-    } else if need == 1 {
-        ONE
-    } else {
-        BETWEEN
+// Buses whose need is above their degree, as it is without lines, equal to it, 1 and below it, or between 1 and it.
+#[derive(Clone, Copy, Default)]
+struct Needs {
+    above: u64,
+    equal: u64,
+    one: u64,
+    between: u64,
+}
+
+// Adds to a count. None comes near where a sum would not fit.
+fn count(counted: &mut u64, more: u32) {
+    *counted = counted.saturating_add(u64::from(more));
+}
+
+impl Needs {
+    // Counts a bus of this need and degree.
+    fn count(&mut self, need: u32, degree: u32) {
+        let counted = if need > degree {
+            &mut self.above
+        } else if need == degree {
+            &mut self.equal
+        } else if need == 1 {
+            &mut self.one
+        } else {
+            &mut self.between
+        };
+        count(counted, 1);
     }
 }
 
-// More than any L of seven buses, which is at most 420, or any numerator, which is at most 7,000 times L.
-const LARGE: u64 = 10_000_000;
+impl fmt::Display for Needs {
+    fn fmt<W: fmt::Write>(&self, f: &mut fmt::Formatter<W>) -> fmt::Result {
+        writeln!(f, "buses with a need above the degree {}", self.above)?;
+        writeln!(f, "buses with a need equal to it {}", self.equal)?;
+        writeln!(f, "buses with need 1 below it {}", self.one)?;
+        write!(f, "buses with a need between {}", self.between)
+    }
+}
 
-// Whether a numerator over L is the average of gains of this sum over so many orders, in whole numbers.
-fn is_average(numerator: u64, over: u64, sum: u32, orders: u32) -> bool {
-    if numerator > LARGE {
-        return false;
+// A line for each count.
+impl fmt::Display for Counts {
+    fn fmt<W: fmt::Write>(&self, f: &mut fmt::Formatter<W>) -> fmt::Result {
+        writeln!(f, "networks {}", self.networks)?;
+        writeln!(f, "orders gone through {}", self.orders)?;
+        writeln!(
+            f,
+            "orders whose gains do not add up to the total weight {}",
+            self.uneven
+        )?;
+        writeln!(f, "{}", self.needs)?;
+        writeln!(f, "shares that are not the average {}", self.different)?;
+        writeln!(
+            f,
+            "shares by the formula of need 1 that are not {}",
+            self.wrong
+        )?;
+        writeln!(
+            f,
+            "shares by own weights alone that are not {}",
+            self.own_weight
+        )?;
+        writeln!(
+            f,
+            "networks with a need raised until it cannot be met {}",
+            self.unmet
+        )?;
+        writeln!(f, "of these not refused {}", self.unmet_taken)?;
+        writeln!(
+            f,
+            "networks with a weight made 0 or 1001 {}",
+            self.out_of_range
+        )?;
+        write!(f, "of these not refused {}", self.out_of_range_taken)
     }
-    if over > LARGE {
-        return false;
+}
+
+// The average of a bus's gains: their sum, over so many orders.
+#[derive(Clone, Copy)]
+struct Average {
+    sum: u32,
+    orders: u32,
+}
+
+// Whether a share is the average, in whole numbers.
+fn is_average(share: BusShare, average: Average) -> bool {
+    u128::from(share.numerator) * u128::from(average.orders)
+        == u128::from(share.over) * u128::from(average.sum)
+}
+
+// What Shares gives the buses of a network.
+#[derive(Clone, Copy, Default)]
+struct Shares {
+    numerators: [u64; MOST],
+    over: u64,
+}
+
+impl Shares {
+    fn of_bus(self, bus: usize) -> BusShare
+        requires { bus < MOST }
+    {
+        BusShare {
+            numerator: self.numerators[bus],
+            over: self.over,
+        }
     }
-    numerator * orders as u64 == over * sum as u64
+}
+
+fn shares_of(table: &[u16; ENTRIES]) -> Result<Shares, Refusal> {
+    let mut numerators = [0u64; MOST];
+    match scorer::shares(table, &mut numerators) {
+        AllShares::Over(over) => Ok(Shares { numerators, over }),
+        AllShares::Refused(cause) => Err(cause),
+    }
 }
 
 // Whether Share gives a bus the same as Shares did.
-fn is_share(table: &[u16; ENTRIES], bus: usize, numerator: u64, over: u64) -> bool {
+fn is_share(table: &[u16; ENTRIES], bus: usize, share: BusShare) -> bool {
     match scorer::share(table, bus) {
-        OneShare::Is(part, whole) => part == numerator && whole == over,
+        OneShare::Is(numerator, over) => numerator == share.numerator && over == share.over,
         OneShare::Refused(_) => false,
     }
 }
 
-// A part times a weight; 0 if the part is larger than any is.
-fn weighted(part: u64, weight: u16) -> u64 {
-    if part > LARGE {
-        return 0;
-    }
-    part * weight as u64
-}
-
-// A numerator by the first game's formula, 1/(d + 1) for the bus and each neighbour, each times its weight: wrong where needs
-// are not 1.
-fn wrong_numerator(small: Small, bus: usize, over: u64) -> u64
-    requires { (small.buses ≤ most) × (bus < most) }
+// A share by the first game's formula, 1/(d + 1) for the bus and each neighbour, each times its weight: wrong where needs are
+// not 1.
+fn wrong_share(small: Small, bus: usize, over: u64) -> BusShare
+    requires { (small.buses ≤ MOST) × (bus < MOST) }
 {
-    let neighbours = small.neighbours;
-    let weights = small.weights;
-    let with_bus = neighbours[bus] | only(bus);
-    let mut sum = 0;
+    let mut numerator = 0u64;
     for other in 0..small.buses {
-        if has(with_bus, other) {
-            let part = over / (size(neighbours[other]) as u64 + 1);
-            sum = wrapping_add_u64(sum, weighted(part, weights[other]));
+        if other == bus || small.neighbours[bus].has(other) {
+            let part = over / u64::from(small.neighbours[other].size() + 1);
+            let weighted = part.saturating_mul(u64::from(small.weights[other]));
+            numerator = numerator.saturating_add(weighted);
         }
     }
-    sum
+    BusShare { numerator, over }
 }
 
 // Compares what a bus is given with the average of its gains.
 fn compare_bus(
-    counts: &mut [u64; COUNTED],
+    counts: &mut Counts,
     small: Small,
     bus: usize,
     table: &[u16; ENTRIES],
-    numerator: u64,
-    over: u64,
-    sum: u32,
-    orders: u32,
+    share: BusShare,
+    average: Average,
 )
-    requires { (small.buses ≤ most) × (bus < most) }
+    requires { (small.buses ≤ MOST) × (bus < MOST) }
 {
-    let needs = small.needs;
-    let neighbours = small.neighbours;
-    count(counts, kind(needs[bus] as u32, size(neighbours[bus])), 1);
-    if !is_average(numerator, over, sum, orders) || !is_share(table, bus, numerator, over) {
-        count(counts, DIFFERENT, 1);
+    let degree = small.neighbours[bus].size();
+    counts.needs.count(u32::from(small.needs[bus]), degree);
+    if !is_average(share, average) || !is_share(table, bus, share) {
+        count(&mut counts.different, 1);
     }
-    if !is_average(wrong_numerator(small, bus, over), over, sum, orders) {
-        count(counts, WRONG, 1);
+    if !is_average(wrong_share(small, bus, share.over), average) {
+        count(&mut counts.wrong, 1);
+    }
+}
+
+// The average of the gains of a bus.
+fn average_of(gains: Gains, bus: usize) -> Average
+    requires { bus < MOST }
+{
+    Average {
+        sum: gains.sums[bus],
+        orders: gains.orders,
     }
 }
 
 // Compares the shares of a network, of which all orders were gone through. Where Shares refuses it, so does Share, and each
 // of its buses counts as different.
-fn compare_shares(counts: &mut [u64; COUNTED], small: Small, gains: Gains)
-    requires { small.buses ≤ most }
+fn compare_shares(counts: &mut Counts, small: Small, gains: Gains)
+    requires { small.buses ≤ MOST }
 {
     let table = table(small);
-    let mut numerators = [0u64; MOST];
-    let over = match scorer::shares(&table, &mut numerators) {
-        AllShares::Over(over) => over,
-        AllShares::Refused(_) => 0,
-    };
-    let sums = gains.sums;
+    let shares = shares_of(&table).unwrap_or_default();
     for bus in 0..small.buses {
-        compare_bus(
-            counts,
-            small,
-            bus,
-            &table,
-            numerators[bus],
-            over,
-            sums[bus],
-            gains.orders,
-        );
+        let average = average_of(gains, bus);
+        compare_bus(counts, small, bus, &table, shares.of_bus(bus), average);
     }
 }
 
 // Compares the averages with the shares without weights, each times its bus's own weight: wrong where neighbours have other
 // weights, since the term for a neighbour takes the neighbour's.
-fn compare_own_weights(counts: &mut [u64; COUNTED], small: Small, gains: Gains)
-    requires { small.buses ≤ most }
+fn compare_own_weights(counts: &mut Counts, small: Small, gains: Gains)
+    requires { small.buses ≤ MOST }
 {
-    let mut numerators = [0u64; MOST];
-    let over = match scorer::shares(&table(choice::unweighted(small)), &mut numerators) {
-        AllShares::Over(over) => over,
-        AllShares::Refused(_) => 0,
-    };
-    let weights = small.weights;
-    let sums = gains.sums;
+    let shares = shares_of(&table(choice::unweighted(small))).unwrap_or_default();
     for bus in 0..small.buses {
-        let numerator = weighted(numerators[bus], weights[bus]);
-        if !is_average(numerator, over, sums[bus], gains.orders) {
-            count(counts, OWN_WEIGHT, 1);
+        let share = shares.of_bus(bus);
+        let weighted = share
+            .numerator
+            .saturating_mul(u64::from(small.weights[bus]));
+        let own = BusShare {
+            numerator: weighted,
+            ..share
+        };
+        if !is_average(own, average_of(gains, bus)) {
+            count(&mut counts.own_weight, 1);
         }
     }
 }
 
-// Whether Shares finds no network in the table, number 11.
+// Whether Shares finds no network in the table.
 fn is_refused(small: Small) -> bool
-    requires { small.buses ≤ most }
+    requires { small.buses ≤ MOST }
 {
-    let mut numerators = [0u64; MOST];
-    match scorer::shares(&table(small), &mut numerators) {
-        AllShares::Over(_) => false,
-        AllShares::Refused(cause) => cause.number() == 11,
-    }
+    matches!(shares_of(&table(small)), Err(Refusal::NoNetwork))
 }
 
 // Raises the need of each bus in turn until it cannot be met.
-fn raise_needs(counts: &mut [u64; COUNTED], small: Small)
-    requires { small.buses ≤ most }
+fn raise_needs(counts: &mut Counts, small: Small)
+    requires { small.buses ≤ MOST }
 {
     for bus in 0..small.buses {
-        count(counts, UNMET, 1);
+        count(&mut counts.unmet, 1);
         if !is_refused(choice::raised(small, bus)) {
-            count(counts, UNMET_TAKEN, 1);
+            count(&mut counts.unmet_taken, 1);
         }
     }
 }
 
 // Gives a bus a weight that none may have.
-fn take_out_of_range(counts: &mut [u64; COUNTED], small: Small, bus: usize, weight: u16)
-    requires { (small.buses ≤ most) × (bus < most) }
+fn take_out_of_range(counts: &mut Counts, small: Small, bus: usize, weight: u16)
+    requires { (small.buses ≤ MOST) × (bus < MOST) }
 {
-    count(counts, OUT_OF_RANGE, 1);
+    count(&mut counts.out_of_range, 1);
     if !is_refused(choice::reweighted(small, bus, weight)) {
-        count(counts, OUT_OF_RANGE_TAKEN, 1);
+        count(&mut counts.out_of_range_taken, 1);
     }
 }
 
 // Gives each bus in turn weight 0, and one above the highest.
-fn change_weights(counts: &mut [u64; COUNTED], small: Small)
-    requires { small.buses ≤ most }
+fn change_weights(counts: &mut Counts, small: Small)
+    requires { small.buses ≤ MOST }
 {
     for bus in 0..small.buses {
         take_out_of_range(counts, small, bus, 0);
@@ -232,13 +278,13 @@ fn change_weights(counts: &mut [u64; COUNTED], small: Small)
     }
 }
 
-fn compare(counts: &mut [u64; COUNTED], small: Small)
-    requires { small.buses ≤ most }
+fn compare(counts: &mut Counts, small: Small)
+    requires { small.buses ≤ MOST }
 {
     let gains = all_orders(small);
-    count(counts, NETWORKS, 1);
-    count(counts, ORDERS, gains.orders);
-    count(counts, UNEVEN, gains.uneven);
+    count(&mut counts.networks, 1);
+    count(&mut counts.orders, gains.orders);
+    count(&mut counts.uneven, gains.uneven);
     compare_shares(counts, small, gains);
     compare_own_weights(counts, small, gains);
     raise_needs(counts, small);
@@ -249,77 +295,34 @@ fn compare(counts: &mut [u64; COUNTED], small: Small)
 const NUMBERED: usize = 5;
 
 // Compares all networks of so few buses with need 1 and weight 1 everywhere.
-fn compare_all(counts: &mut [u64; COUNTED]) {
+fn compare_all() -> Counts {
+    let mut counts = Counts::default();
     for buses in 1..=NUMBERED {
         for number in 0..choice::line_sets(buses) {
-            compare(counts, choice::numbered(buses, number));
+            compare(&mut counts, choice::numbered(buses, number));
         }
     }
+    counts
 }
 
 // Networks that are drawn: as many of each number of buses.
 const CHOSEN: usize = 120 * MOST;
 
-fn compare_chosen(counts: &mut [u64; COUNTED]) {
+fn compare_chosen() -> Counts {
+    let mut counts = Counts::default();
     let mut seed = choice::SEED;
     for k in 0..CHOSEN {
-        let draws = choice::draws(seed);
-        compare(counts, choice::chosen(1 + k % MOST, &draws));
-        seed = draws[DRAWS - 1];
+        let draws = Draws::from_seed(seed);
+        compare(&mut counts, choice::chosen(1 + k % MOST, draws));
+        seed = draws.seed;
     }
+    counts
 }
 
-// Prints words and a number. Whether they could be printed is seen where the output is compared.
-fn say(rt: &impl Print, words: &str, number: u64) {
-    let _ = print!(rt; "{words}{number}");
-}
-
-// A line for each count.
-fn say_counts(rt: &impl Print, counts: &[u64; COUNTED]) {
-    say(rt, "networks ", counts[NETWORKS]);
-    say(rt, "\norders gone through ", counts[ORDERS]);
-    say(
-        rt,
-        "\norders whose gains do not add up to the total weight ",
-        counts[UNEVEN],
-    );
-    say(rt, "\nbuses with a need above the degree ", counts[ABOVE]);
-    say(rt, "\nbuses with a need equal to it ", counts[EQUAL]);
-    say(rt, "\nbuses with need 1 below it ", counts[ONE]);
-    say(rt, "\nbuses with a need between ", counts[BETWEEN]);
-    say(rt, "\nshares that are not the average ", counts[DIFFERENT]);
-    say(
-        rt,
-        "\nshares by the formula of need 1 that are not ",
-        counts[WRONG],
-    );
-    say(
-        rt,
-        "\nshares by own weights alone that are not ",
-        counts[OWN_WEIGHT],
-    );
-    say(
-        rt,
-        "\nnetworks with a need raised until it cannot be met ",
-        counts[UNMET],
-    );
-    say(rt, "\nof these not refused ", counts[UNMET_TAKEN]);
-    say(
-        rt,
-        "\nnetworks with a weight made 0 or 1001 ",
-        counts[OUT_OF_RANGE],
-    );
-    say(rt, "\nof these not refused ", counts[OUT_OF_RANGE_TAKEN]);
-}
-
+// Whether it could all be printed is seen where the output is compared.
 fn main(rt: HostRuntime) {
-    let mut counts = [0u64; COUNTED];
-    compare_all(&mut counts);
-    let _ = println!(rt; "All networks of 1 to 5 buses with need 1 and weight 1");
-    say_counts(&rt, &counts);
-    counts = [0u64; COUNTED];
-    compare_chosen(&mut counts);
-    let _ = println!(rt; "\n\nNetworks of 1 to 7 buses with lines, needs and weights drawn");
-    say_counts(&rt, &counts);
-    let _ = println!(rt);
+    let all = compare_all();
+    let _ = println!(rt; "All networks of 1 to 5 buses with need 1 and weight 1\n{all}\n");
+    let chosen = compare_chosen();
+    let _ = println!(rt; "Networks of 1 to 7 buses with lines, needs and weights drawn\n{chosen}");
 }

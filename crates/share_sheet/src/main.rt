@@ -3,27 +3,15 @@
 
 use network::Network;
 use report::{LONGEST_SHEET, report};
-use standard_io::{Input, fail_reading, print, read_input, warn};
-
-// Prints the sheet of a file, or the line that refuses it.
-fn answer(rt: &HostRuntime, file: &[u8]) {
-    let mut errors = rt.stderr();
-    warn(&mut errors, b"share-sheet", file);
-    let mut text = [0u8; LONGEST_SHEET];
-    let length = report(file, &mut text);
-    print(
-        &mut rt.stdout(),
-        &mut errors,
-        b"share-sheet",
-        &text[..length],
-    );
-}
+use standard_io::run;
+use std::io::Write;
 
 // One byte more than the largest file has suffices to judge it.
 fn main(rt: HostRuntime) {
-    let mut file = [0u8; Network::BYTES + 1];
-    match read_input(&mut rt.stdin(), &mut file) {
-        Input::Bytes(bytes) => answer(&rt, &file[..bytes]),
-        Input::Failed(error) => fail_reading(&mut rt.stderr(), b"share-sheet", error),
-    }
+    let mut buffer = [0u8; Network::BYTES + 1];
+    run(&rt, "share-sheet", 0, &mut buffer, |file, output| {
+        let mut text = [0u8; LONGEST_SHEET];
+        let length = report(file, &mut text);
+        output.write_all(&text[..length])
+    });
 }

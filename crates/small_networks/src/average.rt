@@ -4,93 +4,70 @@
 // to 1: each remainder says how many of the buses not yet fitted are passed over to find the next. Each row of such remainders
 // is that of exactly one number of which nothing is left, as digits are, and each order has exactly one such row; so every
 // order comes once.
-ghost use Rattle.std.specs.Prelude.{◌<◌, ◌≤◌};
-ghost use Rattle.small_networks.specs.SizeBounds.{most};
+ghost use Rattle.std.specs.Prelude.{◌<◌, ◌≤◌, length};
 
-use crate::{MOST, Small, has, only, size};
-use std::num::{wrapping_add_u32, wrapping_sub_u32};
+use crate::{BusSet, MOST, Small};
 
 // Whether a bus is seen: it carries a recorder, or at least as many of its neighbours as its need do.
-fn is_seen(small: Small, fitted: u32, bus: usize) -> bool
-    requires { bus < most }
+fn is_seen(small: Small, fitted: BusSet, bus: usize) -> bool
+    requires { bus < MOST }
 {
-    let needs = small.needs;
-    let neighbours = small.neighbours;
-    has(fitted, bus) || size(neighbours[bus] & fitted) >= needs[bus] as u32
+    fitted.has(bus) || small.neighbours[bus].shared(fitted) >= u32::from(small.needs[bus])
 }
 
-// The value of a set of recorders: the weights of the buses that are seen, added up. No sum of weights comes near where it
-// would wrap.
-fn value(small: Small, fitted: u32) -> u32
-    requires { small.buses ≤ most }
+// The value of a set of recorders: the weights of the buses that are seen, added up.
+fn value(small: Small, fitted: BusSet) -> u32
+    requires { small.buses ≤ MOST }
 {
-    let weights = small.weights;
     let mut sum = 0;
-    for bus in 0..small.buses {
+    for (bus, weight) in small.weights[..small.buses].iter().enumerate() {
         if is_seen(small, fitted, bus) {
-            sum = wrapping_add_u32(sum, weights[bus] as u32);
+            sum += u32::from(*weight);
         }
     }
     sum
 }
 
-// The weights of all buses, added up.
-fn total_weight(small: Small) -> u32
-    requires { small.buses ≤ most }
+// Weights added up.
+fn total_weight(weights: &[u16]) -> u32
+    requires { length weights.now ≤ MOST }
 {
-    let weights = small.weights;
-    let mut sum = 0;
-    for bus in 0..small.buses {
-        sum = wrapping_add_u32(sum, weights[bus] as u32);
-    }
-    sum
+    weights.iter().map(|weight| u32::from(*weight)).sum()
 }
 
 // The lowest bus not yet fitted, after so many of them are passed over.
-fn next(fitted: u32, passed: u32) -> usize
-    ensures { result < most }
+fn next(fitted: BusSet, passed: u32) -> usize
+    ensures { result < MOST }
 {
-    let mut passes = passed;
-    for bus in 0..MOST {
-        if !has(fitted, bus) {
-            if passes == 0 {
-                return bus;
-            }
-            passes -= 1;
-        }
-    }
-    0
+    (0..MOST)
+        .filter(|bus| !fitted.has(*bus))
+        .nth(passed as usize)
+        .unwrap_or(0)
 }
 
 // Whether a number is that of an order: nothing is left of it, in whichever order it is divided.
 fn has_order(buses: u32, number: u32) -> bool {
-    let mut rest = number;
-    for left in 1..=buses {
-        rest /= left;
-    }
-    rest == 0
+    (1..=buses).fold(number, |rest, left| rest / left) == 0
 }
 
 // Fits the buses in the order of a number, adds each bus's gain to its sum, and gives the sum of all gains. A gain is how much
 // the value rises; were it to fall, the gain would wrap and be no small number.
 fn fit(small: Small, number: u32, sums: &mut [u32; MOST]) -> u32
-    requires { small.buses ≤ most }
+    requires { small.buses ≤ MOST }
 {
-    let mut fitted = 0;
+    let mut fitted = BusSet::default();
     let mut before = value(small, fitted);
-    let mut gains = 0;
+    let mut gains = 0u32;
     let mut rest = number;
-    let mut left = small.buses as u32;
-    while left > 0 {
+    for left in (1..=small.buses as u32).rev() {
         let bus = next(fitted, rest % left);
-        fitted |= only(bus);
+        fitted.insert(bus);
         let after = value(small, fitted);
-        let gain = wrapping_sub_u32(after, before);
-        sums[bus] = wrapping_add_u32(sums[bus], gain);
-        gains = wrapping_add_u32(gains, gain);
+        let gain = after.wrapping_sub(before);
+        sums[bus] = sums[bus].wrapping_add(gain);
+        gains = gains.wrapping_add(gain);
         before = after;
         rest /= left;
-        left -= 1;
     }
     gains
 }
@@ -109,21 +86,19 @@ const LIMIT: u32 = 10_000;
 
 // Goes through all orders: up to the first number that is that of none.
 pub fn all_orders(small: Small) -> Gains
-    requires { small.buses ≤ most }
+    requires { small.buses ≤ MOST }
 {
     let buses = small.buses as u32;
-    let total = total_weight(small);
+    let orders = (0..LIMIT)
+        .find(|number| !has_order(buses, *number))
+        .unwrap_or(LIMIT);
+    let total = total_weight(&small.weights[..small.buses]);
     let mut sums = [0u32; MOST];
     let mut uneven = 0;
-    let mut orders = 0;
-    while orders < LIMIT {
-        if !has_order(buses, orders) {
-            break;
-        }
-        if fit(small, orders, &mut sums) != total {
+    for number in 0..orders {
+        if fit(small, number, &mut sums) != total {
             uneven += 1;
         }
-        orders += 1;
     }
     Gains {
         orders,

@@ -1,12 +1,17 @@
 // Which networks are compared: all small ones with need 1 and weight 1, and some with needs, lines and weights drawn by chance
 // from a fixed seed.
 ghost use Rattle.std.specs.Prelude.{◌≡◌, ◌<◌, ◌≤◌};
-ghost use Rattle.small_networks.specs.SizeBounds.{most};
 
-use crate::{MOST, Small, neighbours, size};
+use crate::{BusSet, MOST, Small, neighbours};
+use std::array;
 
 // Sets of buses.
 const SETS: u64 = 1 << MOST;
+
+// The set that a number's last digits say.
+fn set_of(digits: u64) -> BusSet {
+    BusSet((digits % SETS) as u32)
+}
 
 // How many sets of lines there are between the buses, for up to five.
 pub fn line_sets(buses: usize) -> u64 {
@@ -22,19 +27,19 @@ pub fn line_sets(buses: usize) -> u64 {
 // The network of a number below that, with need 1 and weight 1 everywhere. Its binary digits say which lines there are: one
 // digit for bus 1, two for bus 2, and so on, each for a bus of a lower number.
 pub fn numbered(buses: usize, number: u64) -> Small
-    requires { buses ≤ most }
+    requires { buses ≤ MOST }
     ensures { result.buses ≡ buses }
 {
-    let mut lower = [0u32; MOST];
     let mut rest = number;
-    for bus in 1..MOST {
-        lower[bus] = (rest % SETS) as u32;
+    let mut lower = [BusSet::default(); MOST];
+    for (bus, set) in lower.iter_mut().enumerate() {
+        *set = set_of(rest);
         rest >>= bus;
     }
     Small {
         buses,
-        needs: [1u8; MOST],
-        weights: [1u16; MOST],
+        needs: [1; MOST],
+        weights: [1; MOST],
         neighbours: neighbours(&lower, buses),
     }
 }
@@ -51,129 +56,131 @@ fn draw(state: u64) -> u64 {
     state % MODULUS * FACTOR % MODULUS
 }
 
-// Draws for one network: a need, a set of lines and a weight for each bus, and one to go on from.
-pub const DRAWS: usize = 3 * MOST + 1;
-
-pub fn draws(seed: u64) -> [u64; DRAWS] {
-    let mut draws = [0u64; DRAWS];
-    let mut state = seed;
-    for k in 0..DRAWS {
+// A draw for each bus, the first from this state.
+fn draw_all(mut state: u64) -> [u64; MOST] {
+    let mut drawn = [0u64; MOST];
+    for number in drawn.iter_mut() {
         state = draw(state);
-        draws[k] = state;
+        *number = state;
     }
-    draws
+    drawn
 }
 
-// Digits of which about a quarter, half or three quarters are 1, as the kind says: both of two drawn, one, or either of two.
-fn digits(kind: u64, drawn: u64) -> u64 {
-    match kind % 3 {
-        0 => drawn & drawn >> MOST,
-        1 => drawn,
-        _ => drawn | drawn >> MOST,
+// What is drawn for one network: a need, a set of lines and a weight for each bus, and a number to go on from.
+#[derive(Clone, Copy)]
+pub struct Draws {
+    needs: [u64; MOST],
+    lines: [u64; MOST],
+    weights: [u64; MOST],
+    pub seed: u64,
+}
+
+impl Draws {
+    // What is drawn from a number on.
+    pub fn from_seed(seed: u64) -> Draws {
+        let needs = draw_all(seed);
+        let lines = draw_all(needs[MOST - 1]);
+        let weights = draw_all(lines[MOST - 1]);
+        Draws {
+            needs,
+            lines,
+            weights,
+            seed: draw(weights[MOST - 1]),
+        }
     }
 }
 
-// Lines to buses of lower numbers: few, so that many buses have none, about half of all, or most.
-fn lower(draws: &[u64; DRAWS]) -> [u32; MOST] {
-    let mut lower = [0u32; MOST];
-    for bus in 1..MOST {
-        lower[bus] = (digits(draws[MOST], draws[MOST + bus]) % SETS) as u32;
+// How many of all lines a network has: few, so that many buses have none, about half of them, or most.
+#[derive(Clone, Copy)]
+enum Density {
+    Few,
+    Half,
+    Most,
+}
+
+impl Density {
+    fn of(drawn: u64) -> Density {
+        match drawn % 3 {
+            0 => Density::Few,
+            1 => Density::Half,
+            _ => Density::Most,
+        }
     }
-    lower
+
+    // A set of about a quarter, half or three quarters of the buses: those at whose place both of two digits drawn are 1, one
+    // is, or either of two.
+    fn set(self, drawn: u64) -> BusSet {
+        set_of(match self {
+            Density::Few => drawn & drawn >> MOST,
+            Density::Half => drawn,
+            Density::Most => drawn | drawn >> MOST,
+        })
+    }
+}
+
+// Lines to buses of lower numbers. Bus 0 has none, so what is drawn for it says how many the others have.
+fn lower(drawn: [u64; MOST]) -> [BusSet; MOST] {
+    let density = Density::of(drawn[0]);
+    drawn.map(|number| density.set(number))
 }
 
 // The highest need that can be met at a bus with these neighbours: as many as they are, but 1 where there are none.
-fn highest(neighbours: u32) -> u32
+fn highest(neighbours: BusSet) -> u32
     ensures { (1 ≤ result) × (result ≤ 32) }
 {
-    let degree = size(neighbours);
-    if degree == 0 {
-        return 1;
-    }
-    degree
+    neighbours.size().max(1)
 }
 
 // Needs from 1 to the highest that can be met.
-fn needs(draws: &[u64; DRAWS], neighbours: &[u32; MOST]) -> [u8; MOST] {
-    let mut needs = [0u8; MOST];
-    for bus in 0..MOST {
-        needs[bus] = (1 + draws[bus] % highest(neighbours[bus]) as u64) as u8;
-    }
-    needs
+fn needs(drawn: [u64; MOST], neighbours: [BusSet; MOST]) -> [u16; MOST] {
+    array::from_fn(|bus| (1 + drawn[bus] % u64::from(highest(neighbours[bus]))) as u16)
 }
 
 // The highest weight.
 pub const WEIGHT: u16 = 1000;
 
 // Weights from 1 to the highest.
-fn weights(draws: &[u64; DRAWS]) -> [u16; MOST] {
-    let mut weights = [0u16; MOST];
-    for bus in 0..MOST {
-        weights[bus] = (1 + draws[2 * MOST + bus] % WEIGHT as u64) as u16;
-    }
-    weights
+fn weights(drawn: [u64; MOST]) -> [u16; MOST] {
+    drawn.map(|number| (1 + number % u64::from(WEIGHT)) as u16)
 }
 
-pub fn chosen(buses: usize, draws: &[u64; DRAWS]) -> Small
-    requires { buses ≤ most }
+pub fn chosen(buses: usize, draws: Draws) -> Small
+    requires { buses ≤ MOST }
     ensures { result.buses ≡ buses }
 {
-    let lower = lower(draws);
-    let neighbours = neighbours(&lower, buses);
-    let needs = needs(draws, &neighbours);
-    let weights = weights(draws);
+    let neighbours = neighbours(&lower(draws.lines), buses);
     Small {
         buses,
-        needs,
-        weights,
+        needs: needs(draws.needs, neighbours),
+        weights: weights(draws.weights),
         neighbours,
     }
 }
 
 // The same network with a need that cannot be met: at one bus, one above the highest that can.
-pub fn raised(small: Small, bus: usize) -> Small
-    requires { bus < most }
+pub fn raised(mut small: Small, bus: usize) -> Small
+    requires { bus < MOST }
     ensures { result.buses ≡ small.buses }
 {
-    let neighbours = small.neighbours;
-    let weights = small.weights;
-    let mut needs = small.needs;
-    needs[bus] = (highest(neighbours[bus]) + 1) as u8;
-    Small {
-        buses: small.buses,
-        needs,
-        weights,
-        neighbours,
-    }
-}
-
-// The same network with other weights.
-fn weighted(small: Small, weights: [u16; MOST]) -> Small
-    ensures { result.buses ≡ small.buses }
-{
-    let needs = small.needs;
-    let neighbours = small.neighbours;
-    Small {
-        buses: small.buses,
-        needs,
-        weights,
-        neighbours,
-    }
+    small.needs[bus] = (highest(small.neighbours[bus]) + 1) as u16;
+    small
 }
 
 // The same network with weight 1 everywhere.
 pub fn unweighted(small: Small) -> Small
     ensures { result.buses ≡ small.buses }
 {
-    weighted(small, [1u16; MOST])
+    Small {
+        weights: [1; MOST],
+        ..small
+    }
 }
 
 // The same network with another weight at one bus.
-pub fn reweighted(small: Small, bus: usize, weight: u16) -> Small
-    requires { bus < most }
+pub fn reweighted(mut small: Small, bus: usize, weight: u16) -> Small
+    requires { bus < MOST }
     ensures { result.buses ≡ small.buses }
 {
-    let mut weights = small.weights;
-    weights[bus] = weight;
-    weighted(small, weights)
+    small.weights[bus] = weight;
+    small
 }

@@ -1,66 +1,44 @@
-// What programs share: standard input read into a buffer, a text printed, and what is said on standard error, after the program's name.
+// What programs share: standard input read into a buffer, a report of it printed, and what is said on standard error, after the program's name.
 #![tactic(auto)]
 
 ghost use Rattle.std.specs.Prelude.{◌≤◌, length};
-ghost use Rattle.standard_io.specs.Input.{Within, ReadsSome, ReadsAll};
+ghost use Rattle.standard_io.specs.Input.{Within, ReadsAll};
 
-use std::io::{Cursor, Error, Read, Write};
+use std::io;
+use std::io::{Cursor, Error, Read, Stdout, Write};
 
-// How many bytes of standard input were read, or why a read failed.
-#[derive(Clone, Copy)]
-pub enum Input {
-    Bytes(usize),
-    Failed(Error),
-}
-
-// One read, of at most as many bytes as the buffer has; 0 say that the input has ended.
-fn read_some<R: Read>(input: &mut R, buffer: &mut [u8]) -> Input
-    ensures within { Within result (length buffer.new) }
-    ensures bytes { ReadsSome (R.remaining input.old) (R.remaining input.new) result buffer.new }
-{
-    match input.read(buffer) {
-        Ok(bytes) => Input::Bytes(bytes),
-        Err(error) => Input::Failed(error),
-    }
-}
-
-// Reads until the buffer is full, the input ends or a read fails. std's `read_exact` does not say how many bytes an input had that ends early.
-pub fn read_input<R: Read>(input: &mut R, buffer: &mut [u8]) -> Input
+// Reads until the buffer is full, the input ends or a read fails, and gives how many bytes were read. std's `read_exact` does not say how many bytes an
+// input had that ends early.
+pub fn read_input<R: Read>(input: &mut R, buffer: &mut [u8]) -> io::Result<usize>
     ensures within { Within result (length buffer.new) }
     ensures bytes { ReadsAll (R.remaining input.old) (R.remaining input.new) result buffer.new }
 {
     let mut bytes = 0;
     while bytes < buffer.len() {
-        match read_some(input, &mut buffer[bytes..]) {
-            Input::Failed(error) => return Input::Failed(error),
-            Input::Bytes(0) => break,
-            Input::Bytes(more) => bytes += more,
+        match input.read(&mut buffer[bytes..])? {
+            0 => break,
+            more => bytes += more,
         }
     }
-    Input::Bytes(bytes)
+    Ok(bytes)
 }
 
 // Whether the file has none of the bytes below 9, which no text has. The second byte of every network is one: its bus count is at most 512.
 fn is_text(file: &[u8]) -> bool {
-    let mut i = 0;
-    while i < file.len() {
-        if file[i] < b'\t' {
-            return false;
-        }
-        i += 1;
-    }
-    true
+    file.iter().all(|byte| *byte >= b'\t')
 }
 
 // Says on standard error what may have gone wrong before, where the file shows it.
-pub fn warn<W: Write>(errors: &mut W, name: &[u8], file: &[u8]) {
-    if file.len() == 0 {
-        let _ = errors.write_all(name);
-        let _ = errors.write_all(b": the input is empty: what was to write it may have failed\n");
+fn warn<W: Write>(errors: &mut W, name: &str, file: &[u8]) {
+    if file.is_empty() {
+        let _ = writeln!(
+            errors,
+            "{name}: the input is empty: what was to write it may have failed"
+        );
     } else if is_text(file) {
-        let _ = errors.write_all(name);
-        let _ = errors.write_all(
-            b": the input looks like a text: make a network file of it with ./network-file first\n",
+        let _ = writeln!(
+            errors,
+            "{name}: the input looks like a text: make a network file of it with ./network-file first"
         );
     }
 }
@@ -82,24 +60,39 @@ fn put_words(error: Error, buffer: &mut [u8]) -> usize
 }
 
 // Says on standard error what failed, and the system's reason.
-fn fail<W: Write>(errors: &mut W, name: &[u8], what: &[u8], error: Error) {
+fn fail<W: Write>(errors: &mut W, name: &str, what: &str, error: Error) {
     let mut words = [0u8; 128];
     let length = put_words(error, &mut words);
-    let _ = errors.write_all(name);
-    let _ = errors.write_all(what);
-    let _ = errors.write_all(b": ");
+    let _ = write!(errors, "{name}: {what}: ");
     let _ = errors.write_all(&words[..length]);
-    let _ = errors.write_all(b"\n");
+    let _ = writeln!(errors);
 }
 
-// Says on standard error that a read failed, and why.
-pub fn fail_reading<W: Write>(errors: &mut W, name: &[u8], error: Error) {
-    fail(errors, name, b": the input cannot be read", error);
-}
-
-// Prints a text, or says on standard error that it could not be.
-pub fn print<O: Write, W: Write>(output: &mut O, errors: &mut W, name: &[u8], text: &[u8]) {
-    if let Err(error) = output.write_all(text) {
-        fail(errors, name, b": standard output cannot be written", error);
+// Runs a program on standard input: reads it into a buffer, warns of the network file in it, which begins behind so many bytes, and has the program print
+// its answer. An input that is too short for those bytes is taken for a file whole.
+pub fn run<F: FnOnce(&[u8], &mut Stdout) -> io::Result<()>>(
+    rt: &HostRuntime,
+    name: &str,
+    ahead: usize,
+    buffer: &mut [u8],
+    answer: F,
+)
+    requires { F.IsAlwaysCallable answer }
+{
+    let mut errors = rt.stderr();
+    match read_input(&mut rt.stdin(), buffer) {
+        Err(error) => fail(&mut errors, name, "the input cannot be read", error),
+        Ok(bytes) => {
+            let input = &buffer[..bytes];
+            warn(&mut errors, name, input.get(ahead..).unwrap_or(input));
+            if let Err(error) = answer(input, &mut rt.stdout()) {
+                fail(
+                    &mut errors,
+                    name,
+                    "standard output cannot be written",
+                    error,
+                );
+            }
+        }
     }
 }

@@ -1,18 +1,12 @@
 -- What was read is the front of the input as it was, and the bytes of this read stand behind it.
-use Rattle.std.specs.Prelude.{◌≡◌, ℕ, ◌+◌, ◌-◌, ◌≤◌, List, ◌++◌, length, take, None, Some}
-use Rattle.std.specs.declared.option.Option.{Option}
+use Rattle.std.specs.Prelude.{◌≡◌, ℕ, ◌+◌, ◌≤◌, List, ◌++◌, length, take}
 use Rattle.std.specs.Io.KnownBytes.{Consumes}
-use Rattle.std.proofs.Common.{◌∙◌, subst, ap, sym, append_assoc, rules, length-take-le}
+use Rattle.std.proofs.Common.{◌∙◌, subst, ap, sym, rules, length-take-le}
+use Rattle.std.proofs.KnownBytes.{Consumes-trans}
 use Rattle.std.proofs.Math.Seq.{take-append-add}
 use Rattle.std.proofs.lemmas.List.{take-append-le}
 use borrow.Rule.Slice.PartMut.{put_mid, post_of}
 use Rattle.standard_io.proofs.read_input.Goals as goal
-
-consumed : (had between has : Option (List ℕ)) (a b : List ℕ) → Consumes had between a → Consumes between has b → Consumes had has (a ++ b)
-consumed None between has a b p q = tt
-consumed (Some xs) None has a b p q = elim p [ ]
-consumed (Some xs) (Some ys) None a b p q = elim q [ ]
-consumed (Some xs) (Some ys) (Some zs) a b p q = p ∙ ap (λ z. a ++ z) q ∙ sym (append_assoc a b zs)
 
 -- the front of a list whose part from k on was written to: what stood before k, and the front of what was written
 front : (k m n : ℕ) (xs ys : List ℕ) → k ≤ length xs → m ≤ length ys → take (k + m) (put_mid k n xs ys) ≡ take k xs ++ take m ys
@@ -27,7 +21,7 @@ pub loop-bytes-preserved : goal.loop-bytes-preserved
 loop-bytes-preserved g c = (
   search rules,
   subst
-      (λ z. Consumes (g.R.Read.remaining c.args.input.now) (g.R.Read.remaining c.read_some.new.input) z)
-      (sym (front c.loop-bytes.bytes c.in-Bytes.more (length c.loop-bytes.buffer - c.loop-bytes.bytes) c.loop-bytes.buffer c.read_some.new.buffer c.loop-bytes.invariant.0 c.in-Bytes.ensures.within))
-      (consumed _ _ _ _ _ c.loop-bytes.invariant.1 c.in-Bytes.ensures.bytes.0),
+      (Consumes _ _)
+      (sym (front _ _ _ _ _ c.loop-bytes.invariant.0 c.in_ok-more.ensures.bound.0))
+      (Consumes-trans _ _ _ _ _ c.loop-bytes.invariant.1 c.in_ok-more.ensures.bytes.0),
 )

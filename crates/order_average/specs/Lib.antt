@@ -1,2 +1,0 @@
--- How large the numbers of the comparison get.
-pub mod CountBounds

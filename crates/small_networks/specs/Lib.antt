@@ -1,2 +1,0 @@
--- How large a network and its table get.
-pub mod SizeBounds

@@ -1,2 +1,0 @@
--- Laws that proofs cite, and claims.
-pub mod BytesRead
