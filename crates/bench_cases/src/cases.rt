@@ -2,9 +2,11 @@
 // what it answers and leaves.
 ghost use Rattle.std.specs.Prelude.{◌+◌, ◌*◌, ◌≤◌, ◌<◌, length};
 
-use super::answers::{cancel, read, share, shares};
 use super::files::{path_to, weighted_path_to, write_star};
 use super::text::{Answer, Changed, Entries, Over, Pair, Read, Share};
+use fraction::cancel;
+use reader::read;
+use scorer::{share, shares};
 use std::io;
 
 // What lent entries hold before a call, and none of these calls stores.

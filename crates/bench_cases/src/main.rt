@@ -2,7 +2,6 @@
 // `starred_cases`.
 #![tactic(auto)]
 
-mod answers;
 mod cases;
 mod files;
 mod text;

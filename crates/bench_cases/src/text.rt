@@ -1,8 +1,7 @@
 // How answers are printed, and what was lent.
 ghost use Rattle.std.specs.Prelude.{◌≤◌, length};
 
-use super::answers::cancel;
-use fraction::Lowest;
+use fraction::{Lowest, cancel};
 use reader::Counts;
 use refusals::Refusal;
 use scorer::BusShare;

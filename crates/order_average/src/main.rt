@@ -7,7 +7,7 @@
 ghost use Rattle.std.specs.Prelude.{◌<◌, ◌≤◌};
 
 use refusals::Refusal;
-use scorer::{AllShares, BusShare, OneShare};
+use scorer::BusShare;
 use small_networks::average::{Gains, all_orders};
 use small_networks::choice::Draws;
 use small_networks::table::{ENTRIES, table};
@@ -144,18 +144,14 @@ impl Shares {
 
 fn shares_of(table: &[u16; ENTRIES]) -> Result<Shares, Refusal> {
     let mut numerators = [0u64; MOST];
-    match scorer::shares(table, &mut numerators) {
-        AllShares::Over(over) => Ok(Shares { numerators, over }),
-        AllShares::Refused(cause) => Err(cause),
-    }
+    let over = scorer::shares(table, &mut numerators)?;
+    Ok(Shares { numerators, over })
 }
 
 // Whether Share gives a bus the same as Shares did.
 fn is_share(table: &[u16; ENTRIES], bus: usize, share: BusShare) -> bool {
-    match scorer::share(table, bus) {
-        OneShare::Is(numerator, over) => numerator == share.numerator && over == share.over,
-        OneShare::Refused(_) => false,
-    }
+    scorer::share(table, bus).is_ok_and(|one| one.numerator == share.numerator
+        && one.over == share.over)
 }
 
 // A share by the first game's formula, 1/(d + 1) for the bus and each neighbour, each times its weight: wrong where needs are
