@@ -40,7 +40,9 @@ slice_bounds-add_terms-end c =
     sym (length-take-le _ _ (omega (arith, left_short _ _ c.requires.holds c.neighbours-row.ensures c.leave_out-many.ensures, c.leave_out-many.auto.left)))
 
 pub unit-requires-2 : goal.unit-requires-2
-unit-requires-2 c = left_short _ _ c.requires.holds c.neighbours-row.ensures c.leave_out-many.ensures
+unit-requires-2 c =
+    let h = c.requires.holds in
+    omega (arith, left_short _ _ h c.neighbours-row.ensures c.leave_out-many.ensures, row_short h.0.shape h.1 c.neighbours-row.ensures)
 
 pub add_terms-requires-2-clause-weight_le_max_weight : goal.add_terms-requires-2-clause-weight_le_max_weight
 add_terms-requires-2-clause-weight_le_max_weight c =
