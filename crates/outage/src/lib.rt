@@ -60,6 +60,7 @@ fn ends_of(table: &[u16], line: usize) -> Ends
         }
         rest -= above;
     }
+    // The buses have all lines between them.
     unreachable!()
 }
 

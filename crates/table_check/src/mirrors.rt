@@ -46,14 +46,8 @@ pub fn mirrored(starts: &[u16], numbers: &[u16], n: usize) -> bool
 {
     let mut cursors = [0u8; Network::BUSES];
     for bus in 0..n {
-        if !matched(
-            starts,
-            numbers,
-            n,
-            bus,
-            row_at(starts, numbers, bus),
-            &mut cursors,
-        ) {
+        let row = row_at(starts, numbers, bus);
+        if !matched(starts, numbers, n, bus, row, &mut cursors) {
             return false;
         }
     }

@@ -1,4 +1,7 @@
-use Rattle.std.proofs.Common.{arith, ℕ, List, [], ◌∷◌, ◌*◌, ◌≤◌, sym, length, length-take-le}
+use Rattle.std.proofs.Common.{arith, ◌≡◌, ℕ, List, [], ◌∷◌, ◌*◌, ◌≤◌, ◌<◌, sym, length-take-le}
+use Rattle.table_spec.specs.Layout.{bus_count, row}
+use Rattle.table_spec.specs.Holds.{Holds}
+use Rattle.share_spec.specs.TableNetwork.{Over}
 use Rattle.lists.specs.Lists.{without, WrittenAt}
 use Rattle.lists.proofs.Without.{length-without-le}
 use Rattle.lists.proofs.Writes.{written_front}
@@ -7,9 +10,9 @@ use Rattle.share_terms.proofs.RowTerms.{added_by, row_short, terms_asked}
 use Rattle.outage.proofs.EndRows.{end_room, left_is, left_room, left_asked}
 use Rattle.outage.proofs.add_end.Goals as goal
 
--- as many as are left of a row are no more than it may have
-many_le : (r left : List ℕ) {new : List ℕ} (other : ℕ) {many : ℕ} → length r ≤ max_degree → WrittenAt (without (other ∷ []) r) 0 left many new → many ≤ max_degree
-many_le r left other s h = omega (arith, h.0, length-without-le (other ∷ []) r, s)
+-- what is left of the row of an end is no longer than a row may be
+left_short : (other : ℕ) (left : List ℕ) {t r new : List ℕ} {end many L : ℕ} → Holds t × (end < bus_count t) × Over t L → r ≡ row t end → WrittenAt (without (other ∷ []) r) 0 left many new → many ≤ max_degree
+left_short other left {r = r} h e w = omega (arith, w.0, length-without-le (other ∷ []) r, row_short h.0.shape h.1 e)
 
 pub unit-requires : goal.unit-requires
 unit-requires c = row_short c.requires.holds.0.shape c.requires.holds.1 c.neighbours-row.ensures
@@ -30,26 +33,24 @@ leave_out-many-requires c = row_short c.requires.holds.0.shape c.requires.holds.
 
 pub slice_bounds-left-end : goal.slice_bounds-left-end
 slice_bounds-left-end c =
-    let short = row_short c.requires.holds.0.shape c.requires.holds.1 c.neighbours-row.ensures in
-    omega (arith, many_le _ _ _ short c.leave_out-many.ensures, c.leave_out-many.auto.left)
+    omega (arith, left_short _ _ c.requires.holds c.neighbours-row.ensures c.leave_out-many.ensures, c.leave_out-many.auto.left)
 
 pub slice_bounds-add_terms-end : goal.slice_bounds-add_terms-end
 slice_bounds-add_terms-end c =
-    let short = row_short c.requires.holds.0.shape c.requires.holds.1 c.neighbours-row.ensures in
-    sym (length-take-le _ _ (omega (arith, many_le _ _ _ short c.leave_out-many.ensures, c.leave_out-many.auto.left)))
+    sym (length-take-le _ _ (omega (arith, left_short _ _ c.requires.holds c.neighbours-row.ensures c.leave_out-many.ensures, c.leave_out-many.auto.left)))
 
 pub unit-requires-2 : goal.unit-requires-2
 unit-requires-2 c =
-    let short = row_short c.requires.holds.0.shape c.requires.holds.1 c.neighbours-row.ensures in
-    omega (arith, many_le _ _ _ short c.leave_out-many.ensures, short)
+    let h = c.requires.holds in
+    omega (arith, left_short _ _ h c.neighbours-row.ensures c.leave_out-many.ensures, row_short h.0.shape h.1 c.neighbours-row.ensures)
 
 pub add_terms-requires-2-clause-weight_le_max_weight : goal.add_terms-requires-2-clause-weight_le_max_weight
 add_terms-requires-2-clause-weight_le_max_weight c =
     let h = c.requires.holds in
     let m = c.leave_out-many.ensures in
-    let short = row_short h.0.shape h.1 c.neighbours-row.ensures in
+    let short = left_short _ _ h c.neighbours-row.ensures m in
     left_asked h.0 h.1 c.neighbours-row.ensures c.args.other (written_front _ _ m) c.weight-weight.ensures.1 c.need-need.ensures c.requires.divided
-    (sym (length-take-le c.leave_out-many.result c.leave_out-many.new.left (omega (arith, many_le _ _ _ short m, c.leave_out-many.auto.left)))) c.unit-2.ensures
+    (sym (length-take-le c.leave_out-many.result c.leave_out-many.new.left (omega (arith, short, c.leave_out-many.auto.left)))) c.unit-2.ensures
 
 pub add_terms-requires-2-clause-by_index : goal.add_terms-requires-2-clause-by_index
 add_terms-requires-2-clause-by_index c =

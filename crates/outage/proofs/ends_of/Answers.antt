@@ -7,9 +7,6 @@ use Rattle.outage.proofs.ends_of.Goals as goal
 pub loop-bus-init : goal.loop-bus-init
 loop-bus-init c = counted_none _ _
 
-pub neighbours-row-requires : goal.neighbours-row-requires
-neighbours-row-requires c = (c.requires.0.shape, omega arith)
-
 pub first_above-first-requires : goal.first_above-first-requires
 first_above-first-requires c = rw c.neighbours-row.ensures (row_valid c.requires.0.shape c.loop-bus.bus (omega arith)).ascends
 

@@ -15,21 +15,21 @@ of_row {s} {l} {r} {x} {y} {i} {b} q e m = subst (λ v. Matched s l i v x b y) e
 pub loop-bus-init : goal.loop-bus-init
 loop-bus-init c = (λ a b. absurd (not-suc-le-zero b), refl, λ _. none_marked _ _ _ max_buses)
 
-pub row_at-requires : goal.row_at-requires
-row_at-requires c = row_lies _ _ _ c.requires.0.spans _ c.loop-bus-test.true
+pub row_at-row-requires : goal.row_at-row-requires
+row_at-row-requires c = row_lies _ _ _ c.requires.0.spans _ c.loop-bus-test.true
 
 pub matched-requires-clause-spans : goal.matched-requires-clause-spans
-matched-requires-clause-spans c = (c.requires.0.spans, c.requires.1, rw c.row_at.ensures (c.requires.0.valid _ c.loop-bus-test.true))
+matched-requires-clause-spans c = (c.requires.0.spans, c.requires.1, rw c.row_at-row.ensures (c.requires.0.valid _ c.loop-bus-test.true))
 
 pub returns-then-not-matched : goal.returns-then-not-matched
 returns-then-not-matched c =
-    let m = of_row _ c.row_at.ensures c.if-not-matched.ensures in
+    let m = of_row _ c.row_at-row.ensures c.if-not-matched.ensures in
     sym (fails _ (λ w. let sy = mirrored_facts _ _ _ w in not_refused _ _ _ c.requires.0 sy _ c.loop-bus-test.true _ (c.loop-bus.invariant.2 sy) _ m))
 
 pub loop-bus-preserved : goal.loop-bus-preserved
 loop-bus-preserved c =
     let inv = c.loop-bus.invariant in
-    let m = of_row _ c.row_at.ensures c.if-not-matched.ensures in (
+    let m = of_row _ c.row_at-row.ensures c.if-not-matched.ensures in (
       below_more _ _ inv.0 (answered _ _ _ _ _ m),
       m.long ∙ inv.1,
       λ sy. marked _ _ _ c.requires.0 sy _ c.loop-bus-test.true _ (inv.2 sy) _ m,
