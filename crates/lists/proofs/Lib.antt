@@ -15,6 +15,7 @@
 --   read                 as code reads it, into numbers and slices of its own
 --   least                the law of a least common multiple
 -- A name that begins with length, at, count, has, in or of is about the length, entries, counts or members of what follows.
+pub mod Chains
 pub mod Counts
 pub mod JoinBelow
 pub mod ListBelow

@@ -17,20 +17,14 @@ use table::Table;
 pub fn within(a: usize, b: usize, x: usize) -> bool
     ensures { result ≡ within a b x }
 {
-    if x < a {
-        return false;
-    }
-    x <= b
+    (a..=b).contains(&x)
 }
 
 // Whether a need can be met at a bus of this degree: it does not exceed the degree; a bus without lines may have need 1.
 pub fn can_be_met(need: usize, degree: usize) -> bool
     ensures { result ≡ can_be_met need degree }
 {
-    if need <= degree {
-        return true;
-    }
-    degree == 0 && need == 1
+    need <= degree || degree == 0 && need == 1
 }
 
 // The counts of a network: n and m.

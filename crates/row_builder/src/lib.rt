@@ -8,7 +8,6 @@ ghost use Rattle.table_spec.specs.Limits.{max_buses, max_degree};
 ghost use Rattle.table_spec.specs.Holds.{needs_can_be_met};
 ghost use Rattle.row_builder.specs.GrowingRows.{AllZero, RowStarts};
 
-use network::rows::entry;
 use network::{Network, can_be_met};
 
 // A count of 0 for each bus.
@@ -23,7 +22,7 @@ pub fn increment(counts: &mut [u16; Network::BUSES], bus: usize)
     requires { (bus < max_buses) × (at counts.old bus < 65535) }
     ensures { counts.new ≡ set counts.old bus (at counts.old bus + 1) }
 {
-    counts[bus] = counts[bus] + 1;
+    counts[bus] += 1;
 }
 
 // Whether one of n buses has more neighbours than it may have lines.
@@ -31,14 +30,9 @@ pub fn degree_too_high(counts: &[u16; Network::BUSES], n: usize) -> bool
     requires { n ≤ max_buses }
     ensures { result ≡ any_below n (λ i. ltb max_degree (at counts.now i)) }
 {
-    let mut bus = 0;
-    while bus < n {
-        if (Network::LINES_AT_BUS as u16) < counts[bus] {
-            return true;
-        }
-        bus += 1;
-    }
-    false
+    counts[..n]
+        .iter()
+        .any(|&count| count as usize > Network::LINES_AT_BUS)
 }
 
 // Whether each bus can meet its need, having so many neighbours.
@@ -46,14 +40,7 @@ pub fn needs_can_be_met(needs: &[u8], counts: &[u16]) -> bool
     requires { length needs.now ≤ length counts.now }
     ensures { result ≡ needs_can_be_met (length needs.now) needs.now (at counts.now) }
 {
-    let mut bus = 0;
-    while bus < needs.len() {
-        if !can_be_met(needs[bus] as usize, entry(counts, bus)) {
-            return false;
-        }
-        bus += 1;
-    }
-    true
+    needs.iter().zip(counts).all(|(&need, &count)| can_be_met(need as usize, count as usize))
 }
 
 // Writes the row starts of n buses, which have so many neighbours, into the table from place `from` on. Each count becomes the start of its row.
@@ -70,13 +57,11 @@ pub fn store_starts(
     ensures value { (result ≡ sum_below n (at counts.old)) × RowStarts n counts.old counts.new }
 {
     let mut start = 0;
-    let mut bus = 0;
-    while bus < n {
+    for bus in 0..n {
         let count = counts[bus];
         counts[bus] = start;
         table[from + bus] = start;
         start += count;
-        bus += 1;
     }
     table[from + n] = start;
     start as usize

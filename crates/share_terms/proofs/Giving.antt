@@ -1,6 +1,6 @@
 -- A term given along a row, bus by bus.
 use mathlib.Core.List.{List}
-use mathlib.Core.Path.{◌≡◌, sym, ap, subst, ◌∙◌}
+use mathlib.Core.Path.{◌≡◌, ap}
 use Prim.Native.Nat.{ℕ, ◌+◌, ◌*◌, ◌^◌, ◌≤◌, ◌<◌}
 use native.Mathlib.Nat.{mul-le-mul_left}
 use native.Mathlib.Omega.{arith}
@@ -16,12 +16,15 @@ use Rattle.share_terms.proofs.Adding.{added_entry, added_both}
 
 -- each bus of the row r has an entry that its terms x fit into; the first k buses have them, and bus j is the next one
 module _ (r : List ℕ) (x k : ℕ) {t u : List ℕ} (room : (v : ℕ) → v ∈ r → (v < length t) × (at t v + x * count v r < 2 ^ 64))
-    (w : Added (λ v. x * count v (take k r)) t u) (b : k < length r) {j : ℕ} (e : j ≡ at r k) where
+    (w : Added (λ v. x * count v (take k r)) t u) (b : k < length r) where
+  abbrev j : ℕ
+  j = at r k
+
   one_more : (v : ℕ) → count v (take (k + 1) r) ≡ count v (take k r) + indicator (eqb v j)
-  one_more v = sum_by_take_next (λ y. indicator (eqb v y)) r k b ∙ ap (λ y. count v (take k r) + indicator (eqb v y)) (sym e)
+  one_more v = sum_by_take_next (λ y. indicator (eqb v y)) r k b
 
   here : (j < length t) × (at t j + x * count j r < 2 ^ 64)
-  here = room j (subst (λ y. y ∈ r) (sym e) (in_at r k b))
+  here = room j (in_at r k b)
 
   pub next_there : j < length u
   next_there = omega (arith, here.0, w.long)

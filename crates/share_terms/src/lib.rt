@@ -15,24 +15,16 @@ ghost use Rattle.share_terms.specs.TermCases.{term_case};
 ghost use Rattle.share_terms.specs.Added.{Added};
 
 use fraction::lcm;
-use network::rows::entry;
 use network::table::{bus_count, neighbours};
 
 fn largest_degree(table: &[u16]) -> usize
     requires { Scorable table.now }
     ensures { result ≡ largest_degree table.now }
 {
-    let n = bus_count(table);
-    let mut largest = 0;
-    let mut bus = 0;
-    while bus < n {
-        let degree = neighbours(table, bus).len();
-        if largest < degree {
-            largest = degree;
-        }
-        bus += 1;
-    }
-    largest
+    (0..bus_count(table))
+        .map(|bus| neighbours(table, bus).len())
+        .max()
+        .unwrap_or(0)
 }
 
 // The least common multiple of 1 to m. The upper half is enough, since each number up to m / 2 divides its double.
@@ -41,10 +33,8 @@ fn multiple_up_to(m: usize) -> u64
     ensures { result ≡ lcm_all (map_below m suc) }
 {
     let mut multiple = 1;
-    let mut k = m / 2;
-    while k < m {
+    for k in m / 2..m {
         multiple = lcm((k + 1) as u64, multiple);
-        k += 1;
     }
     multiple
 }
@@ -69,6 +59,7 @@ pub fn unit(over: u64, degree: usize) -> u64
 }
 
 // Which case a bus is in by its need and its degree, the earlier where two apply: 1 is need above degree, 2 need equal to degree, 3 need 1, and 4 need between them.
+// The cases have numbers, and no enum, since the scope asks for numbered cases by name (docs/DECISIONS.md).
 fn term_case(need: usize, degree: usize) -> usize
     ensures { result ≡ term_case need degree }
 {
@@ -106,11 +97,7 @@ pub fn clear(numerators: &mut [u64], n: usize)
     requires { n ≤ length numerators.old }
     ensures { numerators.new ≡ put numerators.old 0 (replicate n 0) }
 {
-    let mut bus = 0;
-    while bus < n {
-        numerators[bus] = 0;
-        bus += 1;
-    }
+    numerators[..n].fill(0);
 }
 
 // Adds a term to the entry of each bus in a row.
@@ -118,11 +105,8 @@ pub fn give(row: &[u16], term: u64, numerators: &mut [u64])
     requires { (bus : ℕ) → bus ∈ row.now → (bus < length numerators.old) × (at numerators.old bus + term * count bus row.now < 2 ^ 64) }
     ensures { Added (λ bus. term * count bus row.now) numerators.old numerators.new }
 {
-    let mut k = 0;
-    while k < row.len() {
-        let bus = entry(row, k);
-        numerators[bus] += term;
-        k += 1;
+    for &bus in row {
+        numerators[bus as usize] += term;
     }
 }
 

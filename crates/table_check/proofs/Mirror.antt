@@ -31,23 +31,24 @@ pub record Moved (r : List ℕ) (k : ℕ) (x y : List ℕ) : Type 0 where
 pub none_moved : (r x : List ℕ) → Moved r 0 x x
 none_moved r x = record { long = refl; each = λ j. sym (add-zero (at x j)) }
 
--- the cursor c of entry k, which was read into j, moves on
-module _ {r x y : List ℕ} {k j : ℕ} (m : Moved r k x y) (e : j ≡ at r k) (b : k < length r) where
-  pub one-moved : {c : ℕ} → c ≡ at y j → j < length x → Moved r (k + 1) x (set y j (c + 1))
+-- the cursor c of entry k moves on
+module _ {r x y : List ℕ} {k : ℕ} (m : Moved r k x y) (b : k < length r) where
+  pub one-moved : {c : ℕ} → c ≡ at y (at r k) → at r k < length x → Moved r (k + 1) x (set y (at r k) (c + 1))
   one-moved {c} q g =
+      let j = at r k in
       record {
         long = length-set y j (c + 1) ∙ m.long;
         each = λ a.
             at_set y j (c + 1) a (omega (arith, m.long))
             ∙ split (eqb a j)
             (λ t. rw t (let z : a ≡ j = eqb-true a j t in
-            omega (arith, q, ap (at y) z, m.each a, sum_by_take_next (λ v. indicator (eqb a v)) r k b, ap (λ v. indicator (eqb a v)) e, ap indicator t)))
-            (λ t. rw t (omega (arith, m.each a, sum_by_take_next (λ v. indicator (eqb a v)) r k b, ap (λ v. indicator (eqb a v)) e, ap indicator t)));
+            omega (arith, q, ap (at y) z, m.each a, sum_by_take_next (λ v. indicator (eqb a v)) r k b, ap indicator t)))
+            (λ t. rw t (omega (arith, m.each a, sum_by_take_next (λ v. indicator (eqb a v)) r k b, ap indicator t)));
       }
 
   -- in a row that ascends it is the first to ask there
-  pub unmoved : {n i : ℕ} → ValidRow n i r → at y j ≡ at x (at r k)
-  unmoved w = ap (at y) e ∙ m.each (at r k) ∙ ap (λ v. at x (at r k) + v) fresh ∙ add-zero (at x (at r k))
+  pub unmoved : {n i : ℕ} → ValidRow n i r → at y (at r k) ≡ at x (at r k)
+  unmoved w = m.each (at r k) ∙ ap (λ v. at x (at r k) + v) fresh ∙ add-zero (at x (at r k))
     where
       fresh : count (at r k) (take k r) ≡ 0
       fresh =

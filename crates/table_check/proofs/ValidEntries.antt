@@ -1,6 +1,5 @@
 -- What the test of a row has found after some of its entries.
-use Rattle.std.proofs.Common.{◌≡◌, List, ℕ, ◌+◌, ◌≤◌, ◌<◌, length, refl, ap, ◌∙◌, arith, not-suc-le-zero, ◌⊎◌, inl, inr, ⊎_elim}
-use borrow.Author.Count.{below_more}
+use Rattle.std.proofs.Common.{◌≡◌, List, ℕ, ◌+◌, ◌≤◌, ◌<◌, length, arith, ◌⊎◌, ⊎_elim}
 use Rattle.lists.specs.Lists.{at}
 use Rattle.table_spec.specs.Holds.{ValidRow}
 
@@ -10,9 +9,8 @@ pub record Passed (n i : ℕ) (r : List ℕ) (k least : ℕ) : Type 0 where
   pub under : (q : ℕ) → q < k → at r q < least
   pub reached : (least ≡ 0) ⊎ ((p : ℕ) × (p < k) × (least ≡ at r p + 1))
 
-module _ {n i : ℕ} {r : List ℕ} {k least j : ℕ} (w : Passed n i r k least) (e : j ≡ at r k) where
-  pub too_late : k < length r → j < least → ValidRow n i r → ⊥
-  too_late b g t = ⊎_elim (λ z. omega arith) (λ z. omega (arith, z.2, t.ascends z.0 k z.1 b)) w.reached
+pub too_late : {n i : ℕ} {r : List ℕ} {k least : ℕ} → Passed n i r k least → k < length r → at r k < least → ValidRow n i r → ⊥
+too_late {k = k} w b g t = ⊎_elim (λ z. omega arith) (λ z. omega (arith, z.2, t.ascends z.0 k z.1 b)) w.reached
 
 pub all_passed : {n i : ℕ} {r : List ℕ} {k least : ℕ} → Passed n i r k least → length r ≤ k → ValidRow n i r
 all_passed w g =

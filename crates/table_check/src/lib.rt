@@ -20,13 +20,9 @@ fn complete(table: &[u16], from: usize) -> bool
     ensures { result ≡ complete from table.now }
 {
     let n = bus_count(table);
-    if !within(1, Network::BUSES, n) {
-        return false;
-    }
-    if table.len() < from + n + 1 {
-        return false;
-    }
-    from + n + 1 + entry(table, from + n) <= table.len()
+    within(1, Network::BUSES, n)
+        && from + n + 1 <= table.len()
+        && from + n + 1 + entry(table, from + n) <= table.len()
 }
 
 // Whether the rows are sound, and every neighbour is mirrored.
@@ -37,10 +33,7 @@ fn two_way(table: &[u16], from: usize) -> bool
     let n = bus_count(table);
     let starts = starts(table, from);
     let numbers = neighbour_numbers(table, from);
-    if !sound_rows(starts, numbers, n) {
-        return false;
-    }
-    mirrored(starts, numbers, n)
+    sound_rows(starts, numbers, n) && mirrored(starts, numbers, n)
 }
 
 // Whether every need and every weight is one that a bus may have, and each need can be met: the degree of a bus is how far its row start is from the next.
@@ -48,38 +41,24 @@ fn valid_buses(needs: &[u16], weights: &[u16], starts: &[u16]) -> bool
     requires { (length needs.now ≡ length weights.now) × (length needs.now < length starts.now) × Steps (length needs.now) starts.now }
     ensures { result ≡ (needs_in_range needs.now && weights_in_range weights.now && needs_can_be_met (length needs.now) needs.now (row_size starts.now)) }
 {
-    let mut bus = 0;
-    while bus < needs.len() {
+    (0..needs.len()).all(|bus| {
         let need = entry(needs, bus);
-        if !within(1, Network::NEED, need) {
-            return false;
-        }
-        let weight = entry(weights, bus);
-        if !within(1, Network::WEIGHT, weight) {
-            return false;
-        }
         let degree = entry(starts, bus + 1) - entry(starts, bus);
-        if !can_be_met(need, degree) {
-            return false;
-        }
-        bus += 1;
-    }
-    true
+        within(1, Network::NEED, need)
+            && within(1, Network::WEIGHT, entry(weights, bus))
+            && can_be_met(need, degree)
+    })
 }
 
 // Whether the slice holds a network.
 pub fn holds(table: &[u16]) -> bool
     ensures { result ≡ holds table.now }
 {
-    if table.len() < 1 {
+    if table.is_empty() {
         return false;
     }
     let from = starts_at(table);
-    if !complete(table, from) {
-        return false;
-    }
-    if !two_way(table, from) {
-        return false;
-    }
-    valid_buses(needs(table), weights(table), starts(table, from))
+    complete(table, from)
+        && two_way(table, from)
+        && valid_buses(needs(table), weights(table), starts(table, from))
 }

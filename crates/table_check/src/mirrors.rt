@@ -12,10 +12,7 @@ fn is_at(row: &[u16], cursor: u8, bus: usize) -> bool
     ensures { result ≡ is_at row.now cursor bus }
 {
     let k = cursor as usize;
-    if row.len() <= k {
-        return false;
-    }
-    entry(row, k) == bus
+    k < row.len() && entry(row, k) == bus
 }
 
 // Whether each neighbour's row has the bus at its cursor. Those cursors then move on.
@@ -31,15 +28,13 @@ fn matched(
     requires cursors_len { length cursors.old ≡ max_buses }
     ensures { Matched starts.now numbers.now bus row.now cursors.old result cursors.new }
 {
-    let mut k = 0;
-    while k < row.len() {
-        let neighbour = entry(row, k);
+    for &neighbour in row {
+        let neighbour = neighbour as usize;
         let cursor = cursors[neighbour];
         if !is_at(row_at(starts, numbers, neighbour), cursor, bus) {
             return false;
         }
         cursors[neighbour] = cursor + 1;
-        k += 1;
     }
     true
 }
@@ -50,8 +45,7 @@ pub fn mirrored(starts: &[u16], numbers: &[u16], n: usize) -> bool
     ensures { result ≡ mirrored n starts.now numbers.now }
 {
     let mut cursors = [0u8; Network::BUSES];
-    let mut bus = 0;
-    while bus < n {
+    for bus in 0..n {
         if !matched(
             starts,
             numbers,
@@ -62,7 +56,6 @@ pub fn mirrored(starts: &[u16], numbers: &[u16], n: usize) -> bool
         ) {
             return false;
         }
-        bus += 1;
     }
     true
 }

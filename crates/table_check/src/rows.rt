@@ -11,19 +11,11 @@ fn spans(starts: &[u16], n: usize) -> bool
     requires { n < length starts.now }
     ensures { result ≡ (never_fall n starts.now && short_rows n starts.now) }
 {
-    let mut bus = 0;
-    while bus < n {
+    (0..n).all(|bus| {
         let start = entry(starts, bus);
         let end = entry(starts, bus + 1);
-        if end < start {
-            return false;
-        }
-        if start + Network::LINES_AT_BUS < end {
-            return false;
-        }
-        bus += 1;
-    }
-    true
+        start <= end && end <= start + Network::LINES_AT_BUS
+    })
 }
 
 // Whether this may be the row of a bus among n: its numbers are below n, never the bus, and ascend.
@@ -31,20 +23,12 @@ fn valid_row(row: &[u16], n: usize, bus: usize) -> bool
     ensures { result ≡ valid_row n bus row.now }
 {
     let mut least = 0;
-    let mut k = 0;
-    while k < row.len() {
-        let neighbour = entry(row, k);
-        if n <= neighbour {
-            return false;
-        }
-        if neighbour == bus {
-            return false;
-        }
-        if neighbour < least {
+    for &neighbour in row {
+        let neighbour = neighbour as usize;
+        if neighbour >= n || neighbour == bus || neighbour < least {
             return false;
         }
         least = neighbour + 1;
-        k += 1;
     }
     true
 }
@@ -54,14 +38,7 @@ fn valid_rows(starts: &[u16], numbers: &[u16], n: usize) -> bool
     requires { Spans n starts.now numbers.now }
     ensures { result ≡ valid_rows n starts.now numbers.now }
 {
-    let mut bus = 0;
-    while bus < n {
-        if !valid_row(row_at(starts, numbers, bus), n, bus) {
-            return false;
-        }
-        bus += 1;
-    }
-    true
+    (0..n).all(|bus| valid_row(row_at(starts, numbers, bus), n, bus))
 }
 
 // Whether n rows are as the rows of a line table must be, but for their mirrors.
@@ -69,11 +46,5 @@ pub fn sound_rows(starts: &[u16], numbers: &[u16], n: usize) -> bool
     requires { (n < length starts.now) × (at starts.now n ≤ length numbers.now) }
     ensures { result ≡ sound_rows n starts.now numbers.now }
 {
-    if entry(starts, 0) != 0 {
-        return false;
-    }
-    if !spans(starts, n) {
-        return false;
-    }
-    valid_rows(starts, numbers, n)
+    entry(starts, 0) == 0 && spans(starts, n) && valid_rows(starts, numbers, n)
 }

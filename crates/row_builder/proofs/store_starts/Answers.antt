@@ -29,7 +29,7 @@ count_there counts i e = ap (λ l. at l i) e ∙ behind-front counts _ i (omega 
 
 pub loop-bus-init : goal.loop-bus-init
 unfolding map_below join_below sum_below
-loop-bus-init c = (omega arith, refl, sym (put-none _ _), sym (put-none _ _))
+loop-bus-init c = (refl, sym (put-none _ _), sym (put-none _ _))
 
 pub overflow_add-start : goal.overflow_add-start
 unfolding at
@@ -38,8 +38,8 @@ overflow_add-start c =
     let counts = c.args.counts.now in
     omega (
       arith,
-      count_there counts v.bus v.invariant.2,
-      v.invariant.1,
+      count_there counts v.bus v.invariant.1,
+      v.invariant.0,
       c.requires.counts_len.1,
       sum_below-next-le (at counts) {i = v.bus} c.args.n (omega arith),
     )
@@ -49,11 +49,10 @@ unfolding at
 loop-bus-preserved c =
     let v = c.loop-bus in
     let counts = c.args.counts.now in
-    let z = count_there counts v.bus v.invariant.2 in (
-      omega arith,
-      omega (arith, v.invariant.1, z, sum_below-next v.bus (at counts)),
-      listed_next _ _ _ _ v.invariant.2 (omega arith) v.invariant.1 (omega (arith, c.requires.n_le_max_buses, c.requires.counts_len)),
-      listed_next _ _ _ _ v.invariant.3 refl v.invariant.1 (omega (arith, c.requires.n_le_max_buses)),
+    let z = count_there counts v.bus v.invariant.1 in (
+      omega (arith, v.invariant.0, z, sum_below-next v.bus (at counts)),
+      listed_next _ _ _ _ v.invariant.1 (omega arith) v.invariant.0 (omega (arith, c.requires.n_le_max_buses, c.requires.counts_len)),
+      listed_next _ _ _ _ v.invariant.2 refl v.invariant.0 (omega (arith, c.requires.n_le_max_buses)),
     )
 
 pub returns-clause-table_after : goal.returns-clause-table_after
@@ -61,8 +60,8 @@ returns-clause-table_after c =
     let v = c.loop-bus in
     let f : ℕ → ℕ = starts c.args.counts.now in
     by_end (λ k. set v.table (c.args.from + k) v.start ≡ put c.args.table.now c.args.from (map_below (k + 1) f))
-    (listed_next _ _ _ _ v.invariant.3 refl v.invariant.1 (omega (arith, c.requires.n_le_max_buses, v.invariant.0)))
-    v.invariant.0 c.loop-bus-test.false
+    (listed_next _ _ _ _ v.invariant.2 refl v.invariant.0 (omega (arith, c.requires.n_le_max_buses, v.auto.bus-end)))
+    v.auto.bus-end c.loop-bus-test.false
 
 pub returns-clause-value : goal.returns-clause-value
 returns-clause-value c =
@@ -70,11 +69,11 @@ returns-clause-value c =
     let counts = c.args.counts.now in
     let f : ℕ → ℕ = starts counts in
     let all = c.loop-bus-test.false in (
-      by_end (λ k. v.start ≡ f k) v.invariant.1 v.invariant.0 all,
+      by_end (λ k. v.start ≡ f k) v.invariant.0 v.auto.bus-end all,
       record {
-        size = listed-length _ _ _ _ v.invariant.2 (omega (arith, c.requires.n_le_max_buses, c.requires.counts_len)) ∙ c.requires.counts_len.0;
+        size = listed-length _ _ _ _ v.invariant.1 (omega (arith, c.requires.n_le_max_buses, c.requires.counts_len)) ∙ c.requires.counts_len.0;
         each = λ i l.
-            ap (λ t. at t i) v.invariant.2
+            ap (λ t. at t i) v.invariant.1
             ∙ at_front counts _ i (omega (arith, length-map_below v.bus f, all))
             ∙ map_below-at f v.bus (omega (arith, all));
       },

@@ -11,7 +11,7 @@ use Rattle.share_terms.proofs.RowTerms.{left_fits, row_room, terms_added}
 use Rattle.share_terms.proofs.add_terms.Goals as goal
 
 -- What a bus of weight 1 would give to each in its row, and what it keeps.
-module _ (over weight need : ℕ) (row : List ℕ) {one x : ℕ}
+module _ {over weight need : ℕ} (row : List ℕ) {one x : ℕ}
     (r : (weight ≤ max_weight) × (1 ≤ need) × (length row ≤ max_degree) × Divided (length row) over × (one ≡ unit over (length row)))
     (e : x ≡ neighbour_term need (length row) (one * (length row * (length row + 1)))) where
   whole : Whole need (length row) over
@@ -43,10 +43,10 @@ term-term-requires c =
 pub overflow_mul-numerators : goal.overflow_mul-numerators
 overflow_mul-numerators c =
     let r = c.requires.weight_le_max_weight in
-    record { fits = omega (arith, left_le c.args.over c.args.weight c.args.need c.args.row.now r c.term-term.ensures, r.3.bounded) }
+    record { fits = omega (arith, left_le c.args.row.now r c.term-term.ensures, r.3.bounded) }
 
 pub overflow_sub-numerators : goal.overflow_sub-numerators
-overflow_sub-numerators c = left_le c.args.over c.args.weight c.args.need c.args.row.now c.requires.weight_le_max_weight c.term-term.ensures
+overflow_sub-numerators c = left_le c.args.row.now c.requires.weight_le_max_weight c.term-term.ensures
 
 pub overflow_add-numerators : goal.overflow_add-numerators
 unfolding at
@@ -54,7 +54,7 @@ overflow_add-numerators c =
     record {
       fits = omega (
         arith,
-        left_weighed c.args.over c.args.weight c.args.need c.args.row.now c.requires.weight_le_max_weight c.term-term.ensures,
+        left_weighed c.args.row.now c.requires.weight_le_max_weight c.term-term.ensures,
         c.requires.bus_in_bounds.1,
       );
     }
@@ -62,22 +62,22 @@ overflow_add-numerators c =
 pub overflow_mul-weight : goal.overflow_mul-weight
 overflow_mul-weight c =
     let r = c.requires.weight_le_max_weight in
-    record { fits = omega (arith, term_weighed c.args.over c.args.weight c.args.need c.args.row.now r c.term-term.ensures, r.3.bounded) }
+    record { fits = omega (arith, term_weighed c.args.row.now r c.term-term.ensures, r.3.bounded) }
 
 pub give-requires : goal.give-requires
 unfolding at
 give-requires c v m =
     let r = c.requires.weight_le_max_weight in
-    let w = whole c.args.over c.args.weight c.args.need c.args.row.now r c.term-term.ensures in
-    let t = term_is c.args.over c.args.weight c.args.need c.args.row.now r c.term-term.ensures in
+    let w = whole c.args.row.now r c.term-term.ensures in
+    let t = term_is c.args.row.now r c.term-term.ensures in
     let room =
-    row_room c.args.over c.args.need c.args.row.now w t c.args.weight c.args.bus c.args.numerators.now c.requires.bus_in_bounds.0 r.0 c.requires.by_index v m in
+    row_room _ _ _ w t c.args.weight c.args.bus c.args.numerators.now c.requires.bus_in_bounds.0 r.0 c.requires.by_index v m in
     (room.0, omega (arith, room.1))
 
 pub returns : goal.returns
 unfolding at
 returns c =
     let r = c.requires.weight_le_max_weight in
-    let w = whole c.args.over c.args.weight c.args.need c.args.row.now r c.term-term.ensures in
-    let t = term_is c.args.over c.args.weight c.args.need c.args.row.now r c.term-term.ensures in
-    terms_added c.args.over c.args.need c.args.row.now w t c.args.weight c.args.bus c.args.numerators.now c.requires.bus_in_bounds.0 c.give.ensures
+    let w = whole c.args.row.now r c.term-term.ensures in
+    let t = term_is c.args.row.now r c.term-term.ensures in
+    terms_added _ _ _ w t c.args.weight c.args.bus c.args.numerators.now c.requires.bus_in_bounds.0 c.give.ensures

@@ -1,24 +1,21 @@
-use Rattle.std.proofs.Common.{arith, ◌≡◌, refl, ap, ◌∙◌, length}
+use Rattle.std.proofs.Common.{ap, sym, ◌∙◌, rules, arith, unwrap_or}
+use Rattle.std.proofs.lemmas.Iterator.{YieldsList-from_range, YieldsList-from_map}
+use Rattle.std.proofs.lemmas.Iterator.Adapters.{option_map_id}
+use Rattle.std.proofs.lemmas.Iterator.Consumers.{max_from_yields_List}
 use Rattle.lists.specs.Below.{largest_below}
-use Rattle.lists.proofs.Loops.{by_end, largest_below_rises, largest_below_stays}
+use Rattle.lists.proofs.Chains.{largest_range}
 use Rattle.table_spec.specs.Layout.{degree}
 use Rattle.share_spec.specs.TableNetwork.{largest_degree}
 use Rattle.share_terms.proofs.largest_degree.Goals as goal
-use Rattle.share_terms.proofs.largest_degree.Goals.{then-largest-degree, else-largest-degree}
-
-pub loop-bus-init : goal.loop-bus-init
-unfolding largest_below
-loop-bus-init c = (omega arith, refl)
-
-pub loop-bus-preserved : goal.loop-bus-preserved
-loop-bus-preserved c =
-    let e = ap length c.neighbours-degree.ensures in
-    elim c.if-largest-degree.branch [
-      | then-largest-degree w ↦ (omega arith, w.largest-is ∙ largest_below_rises _ _ c.loop-bus.invariant.1 e w.if-largest-degree.true)
-      | else-largest-degree w ↦ (omega arith, w.largest-is ∙ largest_below_stays _ _ c.loop-bus.invariant.1 e w.if-largest-degree.false)
-    ]
 
 pub returns : goal.returns
 unfolding largest_degree
 returns c =
-    by_end (λ i. c.loop-bus.largest ≡ largest_below i (degree c.args.table.now)) c.loop-bus.invariant.1 (omega arith) (omega arith)
+    let degrees = degree c.args.table.now in
+    let n = c.bus_count.result in
+    c.unwrap_or.ensures
+    ∙ ap (λ m. unwrap_or m 0)
+    (sym (option_map_id c.max.result)
+    ∙ max_from_yields_List c.map.result c.max.result c.max.ensures.ran (YieldsList-from_map _ degrees (YieldsList-from_range 0 n n c.map.ensures.source (omega arith)) c.map.ensures.closure (λ x r q k. search rules)))
+    ∙ largest_range degrees n
+    ∙ ap (λ n. largest_below n degrees) c.bus_count.ensures.0

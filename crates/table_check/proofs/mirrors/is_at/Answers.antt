@@ -1,12 +1,12 @@
-use Rattle.std.proofs.Common.{sym, lt-ltb, le-ltb}
-use Rattle.lists.proofs.Tests.{and_fails_left}
+use Rattle.std.proofs.Common.{arith}
+use Rattle.std.proofs.lemmas.Grind.{common_steps}
 use Rattle.table_check.specs.Cursors.{is_at}
 use Rattle.table_check.proofs.mirrors.is_at.Goals as goal
 
-pub returns-then-row-k : goal.returns-then-row-k
+pub returns-then-k-row : goal.returns-then-k-row
 unfolding is_at
-returns-then-row-k c = sym (and_fails_left _ _ (le-ltb _ _ c.if-row-k.true))
+returns-then-k-row c = grind (arith, common_steps)
 
-pub returns : goal.returns
+pub returns-else-k-row : goal.returns-else-k-row
 unfolding is_at
-returns c = rw (lt-ltb _ _ c.if-row-k.false, c.entry.ensures.0)
+returns-else-k-row c = grind (arith, common_steps)

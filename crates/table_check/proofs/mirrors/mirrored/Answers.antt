@@ -1,4 +1,4 @@
-use Rattle.std.proofs.Common.{◌≡◌, List, ℕ, Bool, refl, sym, ◌∙◌, subst, arith, rules, not-suc-le-zero}
+use Rattle.std.proofs.Common.{◌≡◌, List, ℕ, Bool, refl, sym, ◌∙◌, subst, arith, not-suc-le-zero}
 use borrow.Author.Count.{below_more}
 use Rattle.lists.proofs.Tests.{fails}
 use Rattle.table_spec.specs.Limits.{max_buses}
@@ -13,7 +13,7 @@ of_row : {s l r x y : List ℕ} {i : ℕ} {b : Bool} (q : List ℕ) → r ≡ q 
 of_row {s} {l} {r} {x} {y} {i} {b} q e m = subst (λ v. Matched s l i v x b y) e m
 
 pub loop-bus-init : goal.loop-bus-init
-loop-bus-init c = (search rules, λ a b. absurd (not-suc-le-zero b), refl, λ _. none_marked _ _ _ max_buses)
+loop-bus-init c = (λ a b. absurd (not-suc-le-zero b), refl, λ _. none_marked _ _ _ max_buses)
 
 pub row_at-requires : goal.row_at-requires
 row_at-requires c = row_lies _ _ _ c.requires.0.spans _ c.loop-bus-test.true
@@ -24,17 +24,16 @@ matched-requires-clause-spans c = (c.requires.0.spans, c.requires.1, rw c.row_at
 pub returns-then-not-matched : goal.returns-then-not-matched
 returns-then-not-matched c =
     let m = of_row _ c.row_at.ensures c.if-not-matched.ensures in
-    sym (fails _ (λ w. let sy = mirrored_facts _ _ _ w in not_refused _ _ _ c.requires.0 sy _ c.loop-bus-test.true _ (c.loop-bus.invariant.3 sy) _ m))
+    sym (fails _ (λ w. let sy = mirrored_facts _ _ _ w in not_refused _ _ _ c.requires.0 sy _ c.loop-bus-test.true _ (c.loop-bus.invariant.2 sy) _ m))
 
 pub loop-bus-preserved : goal.loop-bus-preserved
 loop-bus-preserved c =
     let inv = c.loop-bus.invariant in
     let m = of_row _ c.row_at.ensures c.if-not-matched.ensures in (
-      search rules,
-      below_more _ _ inv.1 (answered _ _ _ _ _ m),
-      m.long ∙ inv.2,
-      λ sy. marked _ _ _ c.requires.0 sy _ c.loop-bus-test.true _ (inv.3 sy) _ m,
+      below_more _ _ inv.0 (answered _ _ _ _ _ m),
+      m.long ∙ inv.1,
+      λ sy. marked _ _ _ c.requires.0 sy _ c.loop-bus-test.true _ (inv.2 sy) _ m,
     )
 
 pub returns : goal.returns
-returns c = sym (mirrored_test _ _ _ (all-answered _ _ _ (λ i b. c.loop-bus.invariant.1 i (omega arith))))
+returns c = sym (mirrored_test _ _ _ (all-answered _ _ _ (λ i b. c.loop-bus.invariant.0 i (omega arith))))
