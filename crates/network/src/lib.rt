@@ -47,6 +47,7 @@ pub struct Limits {
 }
 
 // A network: a line table whose lines run both ways, and whose needs can be met.
+#[derive(Drop)]
 pub struct Network<'a> {
     table: Table<'a>,
 }
@@ -81,7 +82,17 @@ impl<'a> Network<'a> {
     // Bytes of a network file.
     pub const BYTES: usize = 2 + Network::BUSES + 2 + 4 * Network::LINES + 2 + 2 * Network::BUSES;
 
-    // The table, for what does not ask which way lines run.
+    // The network that a slice holds.
+    pub fn new(slice: &'a [u16]) -> Network<'a>
+        requires { Holds slice.now }
+        ensures { result ≡ slice.now }
+    {
+        Network {
+            table: Table::new(slice),
+        }
+    }
+
+    // Its table, for work that does not ask which way lines run.
     pub fn table(&self) -> &Table<'a>
         ensures { result.now ≡ self.now }
     {

@@ -88,6 +88,7 @@ pub fn entries(n: usize, m: usize) -> usize
 }
 
 // A line table that can be scored, whichever way its lines run: a lent slice that begins with one.
+#[derive(Drop)]
 pub struct Table<'a> {
     slice: &'a [u16],
 }
