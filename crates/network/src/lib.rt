@@ -1,14 +1,17 @@
 // Networks: their limits, and what a line table has where. A network is a line table in a lent slice.
 #![tactic(auto)]
 
-ghost use Rattle.std.specs.Prelude.{◌≡◌};
+ghost use Rattle.std.specs.Prelude.{ℕ, List, ◌≡◌};
 ghost use Rattle.table_spec.specs.Limits.{max_buses, max_degree, max_need, max_weight, max_lines, max_entries, max_bytes};
-ghost use Rattle.table_spec.specs.Holds.{within, can_be_met};
+ghost use Rattle.table_spec.specs.Layout.{lines};
+ghost use Rattle.table_spec.specs.Holds.{within, can_be_met, Holds};
 
 pub mod rows;
 pub mod table;
 
 pub use refusals::Refusal;
+use std::marker::Model;
+use table::Table;
 
 // Whether x is from a to b.
 pub fn within(a: usize, b: usize, x: usize) -> bool
@@ -43,10 +46,21 @@ pub struct Limits {
     pub bytes: usize,
 }
 
-#[derive(Clone, Copy)]
-pub struct Network;
+// A network: a line table whose lines run both ways, and whose needs can be met.
+#[derive(Drop)]
+pub struct Network<'a> {
+    table: Table<'a>,
+}
 
-impl Network {
+impl<'a> Model for Network<'a> {
+    ghost Value = { List ℕ };
+
+    ghost view = { λ n. n.table };
+
+    ghost invariant = { λ n. Holds n.table };
+}
+
+impl<'a> Network<'a> {
     // Buses of a network.
     pub const BUSES: usize = 512;
 
@@ -67,6 +81,31 @@ impl Network {
 
     // Bytes of a network file.
     pub const BYTES: usize = 2 + Network::BUSES + 2 + 4 * Network::LINES + 2 + 2 * Network::BUSES;
+
+    // The network that a slice holds.
+    pub fn new(slice: &'a [u16]) -> Network<'a>
+        requires { Holds slice.now }
+        ensures { result ≡ slice.now }
+    {
+        Network {
+            table: Table::new(slice),
+        }
+    }
+
+    // Its table, for work that does not ask which way lines run.
+    pub fn table(&self) -> &Table<'a>
+        ensures { result.now ≡ self.now }
+    {
+        &self.table
+    }
+
+    // How many lines.
+    pub fn lines(&self) -> usize
+        ensures value { result ≡ lines self.now }
+        ensures network { Holds self.now }
+    {
+        self.table.numbers().len() / 2
+    }
 
     pub fn limits() -> Limits
         ensures buses_value { (result.buses ≡ max_buses) × (result.degree ≡ max_degree) × (result.need ≡ max_need) × (result.weight ≡ max_weight) }

@@ -1,10 +1,11 @@
 // Line tables in lent slices: where a table has what. Row starts begin at `from`.
-ghost use Rattle.std.specs.Prelude.{◌≡◌, ◌+◌, ◌≤◌, ◌<◌, length};
+ghost use Rattle.std.specs.Prelude.{ℕ, List, ◌≡◌, ◌+◌, ◌≤◌, ◌<◌, length};
 ghost use Rattle.table_spec.specs.Limits.{max_buses, max_weight, max_lines};
 ghost use Rattle.table_spec.specs.Layout.{bus_count, needs, weights_from, starts_from, weights, need, weight, starts, neighbour_numbers, starts_at, row, row_start, lines, table_entries};
 ghost use Rattle.table_spec.specs.Holds.{Complete, Scorable, Holds};
 
 use super::rows::{entry, row_at};
+use std::marker::Model;
 
 // How many buses.
 pub fn bus_count(table: &[u16]) -> usize
@@ -78,40 +79,6 @@ pub fn neighbour_numbers(table: &[u16], from: usize) -> &[u16]
     &table[first..end]
 }
 
-// The neighbours of a bus.
-pub fn neighbours(table: &[u16], bus: usize) -> &[u16]
-    requires { Scorable table.now × (bus < bus_count table.now) }
-    ensures { result.now ≡ row table.now bus }
-{
-    let from = starts_at(table);
-    row_at(starts(table, from), neighbour_numbers(table, from), bus)
-}
-
-// The need of a bus.
-pub fn need(table: &[u16], bus: usize) -> usize
-    requires { Scorable table.now × (bus < bus_count table.now) }
-    ensures { result ≡ need table.now bus }
-{
-    entry(needs(table), bus)
-}
-
-// The weight of a bus.
-pub fn weight(table: &[u16], bus: usize) -> u64
-    requires { Scorable table.now × (bus < bus_count table.now) }
-    ensures { (result ≡ weight table.now bus) × (result ≤ max_weight) }
-{
-    entry(weights(table), bus) as u64
-}
-
-// Where the neighbours of a bus begin in the table.
-pub fn row_start(table: &[u16], bus: usize) -> usize
-    requires { Scorable table.now × (bus < bus_count table.now) }
-    ensures { result ≡ row_start table.now bus }
-{
-    let from = starts_at(table);
-    from + bus_count(table) + 1 + entry(starts(table, from), bus)
-}
-
 // How many entries the table of n buses and m lines has.
 pub fn entries(n: usize, m: usize) -> usize
     requires { (n ≤ max_buses) × (m ≤ max_lines) }
@@ -120,10 +87,78 @@ pub fn entries(n: usize, m: usize) -> usize
     3 * n + 2 + 2 * m
 }
 
-// How many lines: half as many as neighbour numbers.
-pub fn lines(table: &[u16]) -> usize
-    requires { Holds table.now }
-    ensures { result ≡ lines table.now }
-{
-    neighbour_numbers(table, starts_at(table)).len() / 2
+// A line table that can be scored, whichever way its lines run: a lent slice that begins with one.
+#[derive(Drop)]
+pub struct Table<'a> {
+    slice: &'a [u16],
+}
+
+impl<'a> Model for Table<'a> {
+    ghost Value = { List ℕ };
+
+    ghost view = { λ t. t.slice.now };
+
+    ghost invariant = { λ t. Scorable t.slice.now };
+}
+
+impl<'a> Table<'a> {
+    pub fn new(slice: &'a [u16]) -> Table<'a>
+        requires { Scorable slice.now }
+        ensures { result ≡ slice.now }
+    {
+        Table { slice }
+    }
+
+    // How many buses.
+    pub fn buses(&self) -> usize
+        ensures value { result ≡ bus_count self.now }
+        ensures scorable { Scorable self.now }
+    {
+        bus_count(self.slice)
+    }
+
+    // The neighbour numbers.
+    pub fn numbers(&self) -> &'a [u16]
+        ensures { result.now ≡ neighbour_numbers (starts_at self.now) self.now }
+    {
+        neighbour_numbers(self.slice, starts_at(self.slice))
+    }
+
+    // The neighbours of a bus.
+    pub fn neighbours(&self, bus: usize) -> &'a [u16]
+        requires { bus < bus_count self.now }
+        ensures { result.now ≡ row self.now bus }
+    {
+        let from = starts_at(self.slice);
+        row_at(
+            starts(self.slice, from),
+            neighbour_numbers(self.slice, from),
+            bus,
+        )
+    }
+
+    // The need of a bus.
+    pub fn need(&self, bus: usize) -> usize
+        requires { bus < bus_count self.now }
+        ensures { result ≡ need self.now bus }
+    {
+        entry(needs(self.slice), bus)
+    }
+
+    // The weight of a bus.
+    pub fn weight(&self, bus: usize) -> u64
+        requires { bus < bus_count self.now }
+        ensures { (result ≡ weight self.now bus) × (result ≤ max_weight) }
+    {
+        entry(weights(self.slice), bus) as u64
+    }
+
+    // Where the neighbours of a bus begin in the slice.
+    pub fn row_start(&self, bus: usize) -> usize
+        requires { bus < bus_count self.now }
+        ensures { result ≡ row_start self.now bus }
+    {
+        let from = starts_at(self.slice);
+        from + bus_count(self.slice) + 1 + entry(starts(self.slice, from), bus)
+    }
 }

@@ -1,7 +1,8 @@
 // The test of a line table: whether a slice holds a network. Row starts begin at `from`.
 #![tactic(auto)]
 
-ghost use Rattle.std.specs.Prelude.{◌&&◌, ◌≡◌, ◌^◌, ◌≤◌, ◌<◌, length};
+ghost use Rattle.std.specs.Prelude.{true, false, MatchResult, ◌&&◌, ◌≡◌, ◌^◌, ◌≤◌, ◌<◌, length};
+ghost use Rattle.refusals.specs.declared.Refusal.TheVariants.{NoNetwork};
 ghost use Rattle.table_spec.specs.Layout.{row_size};
 ghost use Rattle.table_spec.specs.Holds.{complete, needs_in_range, weights_in_range, two_way, needs_can_be_met, holds, Complete, Steps};
 
@@ -11,7 +12,7 @@ pub mod rows;
 use mirrors::mirrored;
 use network::rows::entry;
 use network::table::{bus_count, needs, neighbour_numbers, starts, starts_at, weights};
-use network::{Network, can_be_met, within};
+use network::{Network, Refusal, can_be_met, within};
 use rows::sound_rows;
 
 // Whether the slice has all entries of its table, and no more buses than a network may have.
@@ -61,4 +62,15 @@ pub fn holds(table: &[u16]) -> bool
     complete(table, from)
         && two_way(table, from)
         && valid_buses(needs(table), weights(table), starts(table, from))
+}
+
+// The network that a slice holds, or that it holds none.
+pub fn network<'a>(slice: &'a [u16]) -> Result<Network<'a>, Refusal>
+    ensures { MatchResult result (λ network. (holds slice.now ≡ true) × (network ≡ slice.now)) (λ cause. (holds slice.now ≡ false) × (cause ≡ NoNetwork)) }
+{
+    if holds(slice) {
+        Ok(Network::new(slice))
+    } else {
+        Err(Refusal::NoNetwork)
+    }
 }

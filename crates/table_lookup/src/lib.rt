@@ -7,8 +7,7 @@ ghost use Rattle.table_spec.specs.TableOutcomes.{degree_outcome, row_outcome, ro
 ghost use Rattle.table_lookup.specs.LookupAnswers.{outcome_of_place};
 
 pub use network::Refusal;
-use network::table::{bus_count, neighbours, row_start};
-use table_check::holds;
+use table_check::network;
 
 // Where a bus's row begins in the lent table, and how many entries it has.
 #[derive(Clone, Copy)]
@@ -22,15 +21,14 @@ pub fn row_place(table: &[u16], bus: usize) -> Result<RowPlace, Refusal>
     ensures answer { outcome_of_place result ≡ row_place_outcome table.now bus }
     ensures stands { RowStands table.now bus (outcome_of_place result) }
 {
-    if !holds(table) {
-        return Err(Refusal::NoNetwork);
-    }
-    if bus_count(table) <= bus {
+    let network = network(table)?;
+    let table = network.table();
+    if table.buses() <= bus {
         return Err(Refusal::NoSuchBus);
     }
     Ok(RowPlace {
-        start: row_start(table, bus),
-        entries: neighbours(table, bus).len(),
+        start: table.row_start(bus),
+        entries: table.neighbours(bus).len(),
     })
 }
 

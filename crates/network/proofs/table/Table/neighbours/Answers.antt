@@ -1,0 +1,11 @@
+use Rattle.std.proofs.Common.{◌∙◌}
+use Rattle.table_spec.proofs.Rows.{row_lies, row_in}
+use Rattle.network.proofs.table.Table.neighbours.Goals as goal
+
+pub row_at-requires : goal.row_at-requires
+row_at-requires c =
+    rw (c.starts.ensures, c.neighbour_numbers.ensures, c.starts_at-from.ensures.0) (row_lies _ _ _ c.self.invariant.rows.spans _ (rw (← c.self.view_is) at c.requires))
+
+pub returns : goal.returns
+returns c =
+    rw (← c.self.view_is) (c.row_at.ensures ∙ row_in _ _ c.starts_at-from.ensures.0 c.starts.ensures c.neighbour_numbers.ensures)

@@ -1,9 +1,0 @@
-use Rattle.std.proofs.Common.{◌∙◌}
-use Rattle.table_spec.proofs.Rows.{row_lies, row_in}
-use Rattle.network.proofs.table.neighbours.Goals as goal
-
-pub row_at-requires : goal.row_at-requires
-row_at-requires c = rw (c.starts.ensures, c.neighbour_numbers.ensures, c.starts_at-from.ensures.0) (row_lies _ _ _ c.requires.0.rows.spans _ c.requires.1)
-
-pub returns : goal.returns
-returns c = c.row_at.ensures ∙ row_in _ _ c.starts_at-from.ensures.0 c.starts.ensures c.neighbour_numbers.ensures
