@@ -94,7 +94,8 @@ impl<'a> Network<'a> {
 
     // Its table, for work that does not ask which way lines run.
     pub fn table(&self) -> &Table<'a>
-        ensures { result.now ≡ self.now }
+        ensures value { result.now ≡ self.now }
+        ensures network { Holds self.now }
     {
         &self.table
     }

@@ -127,14 +127,11 @@ impl<'a> Table<'a> {
     // The neighbours of a bus.
     pub fn neighbours(&self, bus: usize) -> &'a [u16]
         requires { bus < bus_count self.now }
-        ensures { result.now ≡ row self.now bus }
+        ensures value { result.now ≡ row self.now bus }
+        ensures scorable { Scorable self.now }
     {
         let from = starts_at(self.slice);
-        row_at(
-            starts(self.slice, from),
-            neighbour_numbers(self.slice, from),
-            bus,
-        )
+        row_at(starts(self.slice, from), self.numbers(), bus)
     }
 
     // The need of a bus.

@@ -6,7 +6,6 @@ ghost use Rattle.lists.specs.Lists.{count, ◌∈◌, at, put};
 ghost use Rattle.lists.specs.Below.{map_below};
 ghost use Rattle.fraction.specs.Divisors.{lcm_all};
 ghost use Rattle.table_spec.specs.Limits.{max_degree, max_weight};
-ghost use Rattle.table_spec.specs.Holds.{Scorable};
 ghost use Rattle.game.specs.Game.{neighbour_term};
 ghost use Rattle.share_spec.specs.TableNetwork.{largest_degree, divisors_of, max_denominator};
 ghost use Rattle.share_spec.specs.TermsGiven.{terms_from};
@@ -15,14 +14,14 @@ ghost use Rattle.share_terms.specs.TermCases.{term_case};
 ghost use Rattle.share_terms.specs.Added.{Added};
 
 use fraction::lcm;
-use network::table::{bus_count, neighbours};
+use network::table::Table;
 
-fn largest_degree(table: &[u16]) -> usize
-    requires { Scorable table.now }
-    ensures { result ≡ largest_degree table.now }
+fn largest_degree(table: &Table) -> usize
+    ensures value { result ≡ largest_degree table.now }
+    ensures small { result ≤ max_degree }
 {
-    (0..bus_count(table))
-        .map(|bus| neighbours(table, bus).len())
+    (0..table.buses())
+        .map(|bus| table.neighbours(bus).len())
         .max()
         .unwrap_or(0)
 }
@@ -40,8 +39,7 @@ fn multiple_up_to(m: usize) -> u64
 }
 
 // L: what all shares of a network are over.
-pub fn denominator(table: &[u16]) -> u64
-    requires { Scorable table.now }
+pub fn denominator(table: &Table) -> u64
     ensures { result ≡ lcm_all (divisors_of table.now) }
 {
     multiple_up_to(1 + largest_degree(table))

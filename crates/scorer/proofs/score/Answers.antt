@@ -12,13 +12,16 @@ use Rattle.two_way.proofs.TwoWaySound.{watching}
 use Rattle.scorer.proofs.score.Goals as goal
 
 pub score_over-requires : goal.score_over-requires
-score_over-requires c = (c.requires.0.shape, c.requires.1, own_over c.requires.0.shape c.denominator-over.ensures)
+score_over-requires c =
+    let e = c.table-table.ensures.value in
+    rw e (c.requires, own_over c.table-table.ensures.network.shape (rw e at c.denominator-over.ensures))
 
 pub returns-clause-numerators_after : goal.returns-clause-numerators_after
 returns-clause-numerators_after c =
-    let t = c.args.table.now in
-    let w = c.requires.0 in
-    c.score_over.ensures
+    let t = c.args.network.now in
+    let w = c.table-table.ensures.network in
+    let e = c.table-table.ensures.value in
+    rw e at c.score_over.ensures
     ∙ ap (put c.args.numerators.now 0)
     (map_below-same _ _ (bus_count t) (as_game (watching w.shape w.mirrored) c.denominator-over.result)
-    ∙ ap (λ L. map_below (bus_count t) (numerator_over (network_of t) L)) c.denominator-over.ensures)
+    ∙ ap (λ L. map_below (bus_count t) (numerator_over (network_of t) L)) (rw e at c.denominator-over.ensures))

@@ -12,7 +12,8 @@ loop-bus-init c = added_none (λ v. refl) _
 pub add_bus-requires-clause-tabled : goal.add_bus-requires-clause-tabled
 add_bus-requires-clause-tabled c =
     let p = c.requires in
-    (c.units-units.ensures, bus_room p.0 p.2 c.args.numerators.now c.bus_count-n.ensures.0 (omega arith) c.clear.ensures c.loop-bus.bus c.loop-bus.invariant c.loop-bus-test.true)
+    let w = c.buses-n.ensures.scorable in
+    (c.units-units.ensures, bus_room w p.1 c.args.numerators.now c.buses-n.ensures.value (omega arith) c.clear.ensures c.loop-bus.bus c.loop-bus.invariant c.loop-bus-test.true)
 
 pub loop-bus-preserved : goal.loop-bus-preserved
 loop-bus-preserved c =
@@ -21,4 +22,5 @@ loop-bus-preserved c =
 pub returns : goal.returns
 returns c =
     let p = c.requires in
-    all_added p.0 p.2 c.args.numerators.now c.bus_count-n.ensures.0 (omega arith) c.clear.ensures c.loop-bus.bus c.loop-bus.invariant c.loop-bus.auto.bus-end c.loop-bus-test.false
+    let w = c.buses-n.ensures.scorable in
+    all_added w p.1 c.args.numerators.now c.buses-n.ensures.value (omega arith) c.clear.ensures c.loop-bus.bus c.loop-bus.invariant c.loop-bus.auto.bus-end c.loop-bus-test.false

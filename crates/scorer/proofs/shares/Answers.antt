@@ -1,28 +1,21 @@
-use Rattle.std.proofs.Common.{arith, refl, sym, ◌∙◌}
+use Rattle.std.proofs.Common.{arith, refl, ◌∙◌}
 use Rattle.refusals.proofs.Due.{accept, not-below}
-use Rattle.table_spec.proofs.Facts.{holds_facts}
 use Rattle.table_spec.proofs.TableCauses.{on_held}
 use Rattle.two_way.specs.TwoWay.{network_of}
 use Rattle.two_way.proofs.TwoWaySound.{held_sound}
 use Rattle.share_spec.proofs.SharePromises.{put_stored, shares_promised}
 use Rattle.scorer.proofs.shares.Goals as goal
 
-pub bus_count-requires : goal.bus_count-requires
-bus_count-requires c = let z = (holds_facts _ (sym c.holds.ensures ∙ c.if-not-holds.false)).shape.complete in omega arith
-
 pub score-requires : goal.score-requires
-score-requires c = (holds_facts _ (sym c.holds.ensures ∙ c.if-not-holds.false), omega arith)
+score-requires c = rw (← c.table.ensures.value) (omega (arith, c.buses.ensures.value))
 
-pub returns-clause-stored : goal.returns-clause-stored
-returns-clause-stored c =
-    (shares_promised (network_of c.args.table.now) (held_sound c.args.table.now) _
-    (on_held (sym c.holds.ensures ∙ c.if-not-holds.false)
-    (not-below refl c.bus_count.ensures.0 c.if-numerators-bus_count.false
-    (accept c.score.ensures.value (c.score.ensures.numerators_after ∙ put_stored _ _))))).1.0
-
-pub returns-clause-fair : goal.returns-clause-fair
-returns-clause-fair c =
-    (shares_promised (network_of c.args.table.now) (held_sound c.args.table.now) _
-    (on_held (sym c.holds.ensures ∙ c.if-not-holds.false)
-    (not-below refl c.bus_count.ensures.0 c.if-numerators-bus_count.false
-    (accept c.score.ensures.value (c.score.ensures.numerators_after ∙ put_stored _ _))))).1.1
+pub returns : goal.returns
+returns c =
+    let held = c.in_ok-network.ensures in
+    let n = rw (c.table.ensures.value, held.1) at c.buses.ensures.value in
+    let over = rw held.1 at c.score.ensures.value in
+    let stored = rw held.1 at c.score.ensures.numerators_after in
+    let w =
+    shares_promised (network_of c.args.table.now) (held_sound c.args.table.now) _
+    (on_held held.0 (not-below refl n c.if-numerators-buses.false (accept over (stored ∙ put_stored _ _)))) in
+    record { answer = w.0; stored = w.1.0; fair = w.1.1 }
