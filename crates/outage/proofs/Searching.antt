@@ -10,12 +10,12 @@ use lib.Dec.{leb}
 use Rattle.std.specs.List.Sorted.{IsPartitionPoint, IsPartitionedBy}
 use Rattle.std.proofs.lemmas.List.Sorted.{IsPartitionedBy-leb, IsNonDecreasingBy-from_default}
 use lib.ListN.{length, set, take, length-append}
-use lib.Seq.{take_all, length-take-le}
+use lib.Seq.{length-take-le}
 use Rattle.lists.specs.Lists.{without, at, Ascending, WrittenAt}
 use Rattle.lists.proofs.Places.{take_next}
 use Rattle.lists.proofs.Loops.{last_or}
 use Rattle.lists.proofs.Without.{without-append, length-without-le}
-use Rattle.lists.proofs.Writes.{length-put, stored_entry}
+use Rattle.lists.proofs.Writes.{stored_entry}
 use Rattle.outage.specs.StudyWork.{Above}
 
 -- ---- the search
@@ -34,11 +34,6 @@ above_by h p = record { inside = h; before = λ i b. leb-true _ _ (p.0 i 0 (omeg
 -- ---- leaving one out: of the first k buses of r those that are not `bus` were copied to the front of t, which left u; x is the next
 
 module _ (r : List ℕ) (bus k : ℕ) (t : List ℕ) {many : ℕ} {u : List ℕ} (w : WrittenAt (without (bus ∷ []) (take k r)) 0 t many u) where
-  pub copied_length : k ≤ length r → length r ≤ length t → length u ≡ length t
-  copied_length l h =
-      ap length w.1
-      ∙ length-put t 0 (without (bus ∷ []) (take k r)) (omega (arith, length-without-le (bus ∷ []) (take k r), length-take-le k r l))
-
   module _ (b : k < length r) where
     pub many_le : many ≤ k
     many_le = omega (arith, w.0, length-without-le (bus ∷ []) (take k r), length-take-le k r (omega arith))
@@ -55,7 +50,3 @@ module _ (r : List ℕ) (bus k : ℕ) (t : List ℕ) {many : ℕ} {u : List ℕ}
 
     pub left_out : at r k ≡ bus → WrittenAt (without (bus ∷ []) (take (k + 1) r)) 0 t many u
     left_out q = let same : without (bus ∷ []) (take (k + 1) r) ≡ without (bus ∷ []) (take k r) = more ∙ rw (eq-eqb (at r k) bus q) (append-nil _) in rw same w
-
-pub copied_all : (r : List ℕ) (bus k : ℕ) (t : List ℕ) {many : ℕ} {u : List ℕ} → WrittenAt (without (bus ∷ []) (take k r)) 0 t many u → length r ≤ k
-    → WrittenAt (without (bus ∷ []) r) 0 t many u
-copied_all r bus k t w h = rw (take_all k r h) at w
