@@ -130,12 +130,13 @@ pub fn study_over(network: &Network, line: usize, over: u64, changes: &mut [i64]
     requires whole { Over network.now over × Over (without_line network.now line) over }
     ensures { changes.new ≡ signed_below (bus_count network.now) (change_over (network_of network.now) (network_of (without_line network.now line)) over) ++ drop (bus_count network.now) changes.old }
 {
+    let table = network.table();
     let Ends { lower, upper } = ends_of(network, line);
     let mut before = [0u64; Network::BUSES];
     let mut after = [0u64; Network::BUSES];
     add_end(network, over, lower, upper, &mut before, &mut after);
     add_end(network, over, upper, lower, &mut before, &mut after);
-    store(&before, &after, network.table().buses(), changes);
+    store(&before, &after, table.buses(), changes);
 }
 
 // The study of a network.
