@@ -27,8 +27,8 @@ use row_builder::{degree_too_high, needs_can_be_met, zero_counts};
 struct Sections<'a> {
     needs: &'a [u8],
     weights: &'a [u8],
-    records: SortedRecords<'a>,
-    ghost counted: { records.buses ≡ length needs.now },
+    sorted: SortedRecords<'a>,
+    ghost counted: { sorted.buses ≡ length needs.now },
     ghost weighed: { CompleteWeights (length needs.now) weights.now },
 }
 
@@ -54,25 +54,25 @@ impl Sections<'_> {
         }
     }
 
-    // Writes the table, by which neighbours were counted.
+    // Writes their table. `counts` has how many neighbours the records give each bus.
     fn store_table(&self, counts: &mut [u16; Network::BUSES], table: &mut [u16])
-        requires counted { let r = self.now.records.records in NeighbourCounts (length self.now.needs.now) r.count r.bytes.now counts.old }
-        requires room { let r = self.now.records.records in table_entries (length self.now.needs.now) (pair_count r.count r.bytes.now) ≤ length table.old }
-        ensures { let r = self.now.records.records in table.new ≡ put table.old 0 (records_table self.now.needs.now self.now.weights.now r.count r.bytes.now) }
+        requires counted { let r = self.now.sorted.records in NeighbourCounts (length self.now.needs.now) r.count r.bytes.now counts.old }
+        requires room { let r = self.now.sorted.records in table_entries (length self.now.needs.now) (pair_count r.count r.bytes.now) ≤ length table.old }
+        ensures { let r = self.now.sorted.records in table.new ≡ put table.old 0 (records_table self.now.needs.now self.now.weights.now r.count r.bytes.now) }
     {
         let n = self.needs.len();
         self.store_needs(table);
         self.store_weights(table, weights_from(n));
-        self.records.store_rows(counts, table, starts_from(n));
+        self.sorted.store_rows(counts, table, starts_from(n));
     }
 
     // Reads the records.
     fn read_lines(&self, table: &mut [u16]) -> Result<Counts, Refusal>
-        ensures { let r = self.now.records.records in LinesDue self.now.needs.now self.now.weights.now r.count r.bytes.now table.old (outcome_of result) table.new }
+        ensures { let r = self.now.sorted.records in LinesDue self.now.needs.now self.now.weights.now r.count r.bytes.now table.old (outcome_of result) table.new }
     {
         let n = self.needs.len();
         let mut counts = zero_counts();
-        let lines = self.records.count_neighbours(&mut counts);
+        let lines = self.sorted.count_neighbours(&mut counts);
         if degree_too_high(&counts, n) {
             return Err(Refusal::DegreeTooHigh);
         }
@@ -104,14 +104,14 @@ fn read_records<'a>(
     if records.out_of_order() {
         return Err(Refusal::OutOfOrder);
     }
-    let records = SortedRecords {
+    let sorted = SortedRecords {
         records: *records,
         buses,
     };
     let sections = Sections {
         needs,
         weights,
-        records,
+        sorted,
     };
     sections.read_lines(table)
 }

@@ -1,8 +1,8 @@
 use Rattle.std.proofs.Common.{sym, ◌∙◌}
 use Rattle.reader.proofs.read_records.Goals as goal
 
-pub invariant_of-records : goal.invariant_of-records
-invariant_of-records c =
+pub invariant_of-sorted : goal.invariant_of-sorted
+invariant_of-sorted c =
     record {
       few = (c.requires.0, c.requires.2);
       sound = sym c.sound_ends.ensures ∙ c.if-not-sound_ends.false;

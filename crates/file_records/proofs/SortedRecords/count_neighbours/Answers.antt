@@ -14,32 +14,33 @@ loop-k-init c = (refl, counts-none _ _ c.requires)
 pub increment-requires : goal.increment-requires
 increment-requires c =
     let s = c.args.self.now in
-    let g = ordered s.few s.sound s.sorted in
+    let g = ordered s in
     let b = first_bus g (omega arith) c.ends-ends.ensures in
     (omega (arith, b, g.buses), omega (arith, neighbour-count-le c.loop-k.invariant.1 b, g.buses))
 
 pub increment-requires-then-not-equals_last : goal.increment-requires-then-not-equals_last
 increment-requires-then-not-equals_last c =
     let s = c.args.self.now in
-    let g = ordered s.few s.sound s.sorted in
-    let l : c.loop-k.k < c.args.self.now.records.count = omega arith in
+    let g = ordered s in
+    let l : c.loop-k.k < s.records.count = omega arith in
     let e = c.ends-ends.ensures in
-    let new : repeats c.args.self.now.records.bytes.now c.loop-k.k ≡ false = sym (repeats-last g l) ∙ sym c.equals_last.ensures ∙ c.if-not-equals_last.true in (
+    let new : repeats s.records.bytes.now c.loop-k.k ≡ false = sym (repeats-last g l) ∙ sym c.equals_last.ensures ∙ c.if-not-equals_last.true in (
       omega (arith, second_bus g l e, g.buses),
       omega (arith, second_count-le g l e new c.loop-k.invariant.1 c.increment.ensures, g.buses),
     )
 
 pub overflow_add-pairs : goal.overflow_add-pairs
 overflow_add-pairs c =
-    let v = c.loop-k in omega (arith, v.invariant.0, pair_count-le v.k c.args.self.now.records.bytes.now, c.args.self.now.few.1)
+    let s = c.args.self.now in
+    let v = c.loop-k in omega (arith, v.invariant.0, pair_count-le v.k s.records.bytes.now, s.few.1)
 
 pub loop-k-preserved : goal.loop-k-preserved
 loop-k-preserved c =
-    let r = c.args.self.now.records.bytes.now in
-    let v = c.loop-k in
     let s = c.args.self.now in
-    let g = ordered s.few s.sound s.sorted in
-    let l : c.loop-k.k < c.args.self.now.records.count = omega arith in
+    let r = s.records.bytes.now in
+    let v = c.loop-k in
+    let g = ordered s in
+    let l : c.loop-k.k < s.records.count = omega arith in
     let again = repeats-last g l in
     let next = pair_count-next v.k r in
     elim c.if-not-equals_last.branch [

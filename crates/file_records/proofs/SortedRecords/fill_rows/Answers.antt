@@ -14,20 +14,20 @@ loop-k-init c = growing_same c.requires _ (λ i b. sym (neighbours-none _ _ i))
 pub append-requires : goal.append-requires
 append-requires c =
     let s = c.args.self.now in
-    let g = ordered s.few s.sound s.sorted in
-    let l : c.loop-k.k < c.args.self.now.records.count = omega arith in
+    let g = ordered s in
+    let l : c.loop-k.k < s.records.count = omega arith in
     let e = c.ends-ends.ensures in
-    let new : repeats c.args.self.now.records.bytes.now c.loop-k.k ≡ false = sym (repeats-last g l) ∙ sym c.equals_last.ensures ∙ c.if-not-equals_last.true in
+    let new : repeats s.records.bytes.now c.loop-k.k ≡ false = sym (repeats-last g l) ∙ sym c.equals_last.ensures ∙ c.if-not-equals_last.true in
     let f = first_fits g l e new c.loop-k.invariant in
     (omega (arith, first_bus g l e, g.buses), f.0, f.1)
 
 pub append-requires-then-not-equals_last : goal.append-requires-then-not-equals_last
 append-requires-then-not-equals_last c =
     let s = c.args.self.now in
-    let g = ordered s.few s.sound s.sorted in
-    let l : c.loop-k.k < c.args.self.now.records.count = omega arith in
+    let g = ordered s in
+    let l : c.loop-k.k < s.records.count = omega arith in
     let e = c.ends-ends.ensures in
-    let new : repeats c.args.self.now.records.bytes.now c.loop-k.k ≡ false = sym (repeats-last g l) ∙ sym c.equals_last.ensures ∙ c.if-not-equals_last.true in
+    let new : repeats s.records.bytes.now c.loop-k.k ≡ false = sym (repeats-last g l) ∙ sym c.equals_last.ensures ∙ c.if-not-equals_last.true in
     let a = c.append.ensures in
     let f = second_fits g l e new (first-grown g l e new c.loop-k.invariant a.rows_after a.next_after) in
     (omega (arith, second_bus g l e, g.buses), f.0, f.1)
@@ -35,22 +35,22 @@ append-requires-then-not-equals_last c =
 pub overflow_cast-ends : goal.overflow_cast-ends
 overflow_cast-ends c =
     let s = c.args.self.now in
-    let g = ordered s.few s.sound s.sorted in
+    let g = ordered s in
     omega (arith, second_bus g (omega arith) c.ends-ends.ensures, g.buses)
 
 pub overflow_cast-ends-then-not-equals_last : goal.overflow_cast-ends-then-not-equals_last
 overflow_cast-ends-then-not-equals_last c =
     let s = c.args.self.now in
-    let g = ordered s.few s.sound s.sorted in
+    let g = ordered s in
     omega (arith, first_bus g (omega arith) c.ends-ends.ensures, g.buses)
 
 pub loop-k-preserved : goal.loop-k-preserved
 loop-k-preserved c =
-    let r = c.args.self.now.records.bytes.now in
-    let v = c.loop-k in
     let s = c.args.self.now in
-    let g = ordered s.few s.sound s.sorted in
-    let l : c.loop-k.k < c.args.self.now.records.count = omega arith in
+    let r = s.records.bytes.now in
+    let v = c.loop-k in
+    let g = ordered s in
+    let l : c.loop-k.k < s.records.count = omega arith in
     let again = repeats-last g l in
     elim c.if-not-equals_last.branch [
       | then-not-equals_last w ↦
@@ -67,8 +67,9 @@ loop-k-preserved c =
 
 pub returns : goal.returns
 returns c =
-    let n = c.args.self.now.buses in
-    let r = c.args.self.now.records.bytes.now in
+    let s = c.args.self.now in
+    let n = s.buses in
+    let r = s.records.bytes.now in
     let v = c.loop-k in
-    let w = by_end (λ k. GrowingRows n (λ i. length (neighbours n c.args.self.now.records.count r i)) (neighbours n k r) v.next v.rows) v.invariant (omega arith) (omega arith) in
+    let w = by_end (λ k. GrowingRows n (λ i. length (neighbours n s.records.count r i)) (neighbours n k r) v.next v.rows) v.invariant (omega arith) (omega arith) in
     growing_done w (λ i b. refl)

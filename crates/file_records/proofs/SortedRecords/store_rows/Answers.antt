@@ -15,7 +15,7 @@ pub store_starts-numbers-requires-clause-counts_len : goal.store_starts-numbers-
 store_starts-numbers-requires-clause-counts_len c =
     let s = c.args.self.now in
     let h = c.requires.counted in
-    (h.size, omega (arith, numbers-le h (ordered s.few s.sound s.sorted)))
+    (h.size, omega (arith, numbers-le h (ordered s)))
 
 -- the rows end where the table has room
 pub overflow_add-end : goal.overflow_add-end
@@ -45,10 +45,12 @@ pub returns : goal.returns
 returns c =
     let s = c.store_starts-numbers in
     let a = c.args in
+    let n = a.self.now.buses in
+    let r = a.self.now.records in
     let h = c.requires.counted in
-    let rows = join_below a.self.now.buses (neighbours a.self.now.buses a.self.now.records.count a.self.now.records.bytes.now) in
+    let rows = join_below n (neighbours n r.count r.bytes.now) in
     let t = s.new.table in
-    let first = a.from + a.self.now.buses + 1 in
+    let first = a.from + n + 1 in
     let fits : first + s.result ≤ length t =
     omega (arith, laid-counted h, s.ensures.value.0, c.requires.section_in_bounds, s.auto.table) in
     laid-stored h a.table.now a.from (omega arith) s.ensures.table_after

@@ -14,16 +14,17 @@ returns-then-degree_too_high c =
 -- no degree is too high, and a need cannot be met exactly if the code says so
 pub returns-then-not-needs_can_be_met : goal.returns-then-not-needs_can_be_met
 returns-then-not-needs_can_be_met c =
-    let q = c.args.self.now.needs.now in
-    let r = c.args.self.now.records.records.bytes.now in
-    let counted = rw c.args.self.now.counted at c.count_neighbours-lines.ensures.1 in
-    let low : degree_too_high (length q) c.args.self.now.records.records.count r ≡ false = sym (too_high_counted counted) ∙ sym c.degree_too_high.ensures ∙ c.if-degree_too_high.false in
-    let above : not c.needs_can_be_met.result ≡ need_above_degree (length q) q c.args.self.now.records.records.count r = ap not c.needs_can_be_met.ensures ∙ above_counted q counted in
+    let s = c.args.self.now in
+    let q = s.needs.now in
+    let r = s.sorted.records in
+    let counted = rw s.counted at c.count_neighbours-lines.ensures.1 in
+    let low : degree_too_high (length q) r.count r.bytes.now ≡ false = sym (too_high_counted counted) ∙ sym c.degree_too_high.ensures ∙ c.if-degree_too_high.false in
+    let above : not c.needs_can_be_met.result ≡ need_above_degree (length q) q r.count r.bytes.now = ap not c.needs_can_be_met.ensures ∙ above_counted q counted in
     pass low (stop (sym above ∙ ap not c.if-not-needs_can_be_met.true))
 
 pub entries-requires : goal.entries-requires
 entries-requires c =
-    let s = c.args.self.now.records in (
+    let s = c.args.self.now.sorted in (
       omega (arith, c.args.self.now.counted, s.few.0),
       omega (arith, c.count_neighbours-lines.ensures.0, pair_count-le s.records.count s.records.bytes.now, s.few.1),
     )
@@ -31,22 +32,24 @@ entries-requires c =
 -- and so many entries are asked for
 pub returns-then-table-entries : goal.returns-then-table-entries
 returns-then-table-entries c =
-    let q = c.args.self.now.needs.now in
-    let r = c.args.self.now.records.records.bytes.now in
-    let counted = rw c.args.self.now.counted at c.count_neighbours-lines.ensures.1 in
-    let low : degree_too_high (length q) c.args.self.now.records.records.count r ≡ false = sym (too_high_counted counted) ∙ sym c.degree_too_high.ensures ∙ c.if-degree_too_high.false in
-    let above : not c.needs_can_be_met.result ≡ need_above_degree (length q) q c.args.self.now.records.records.count r = ap not c.needs_can_be_met.ensures ∙ above_counted q counted in
-    let asked : c.entries.result ≡ table_entries (length q) (pair_count c.args.self.now.records.records.count r) = omega (arith, c.entries.ensures, c.count_neighbours-lines.ensures.0) in
+    let s = c.args.self.now in
+    let q = s.needs.now in
+    let r = s.sorted.records in
+    let counted = rw s.counted at c.count_neighbours-lines.ensures.1 in
+    let low : degree_too_high (length q) r.count r.bytes.now ≡ false = sym (too_high_counted counted) ∙ sym c.degree_too_high.ensures ∙ c.if-degree_too_high.false in
+    let above : not c.needs_can_be_met.result ≡ need_above_degree (length q) q r.count r.bytes.now = ap not c.needs_can_be_met.ensures ∙ above_counted q counted in
+    let asked : c.entries.result ≡ table_entries (length q) (pair_count r.count r.bytes.now) = omega (arith, c.entries.ensures, c.count_neighbours-lines.ensures.0) in
     pass low (pass (sym above ∙ ap not c.if-not-needs_can_be_met.false) (below refl asked c.if-table-entries.true))
 
 pub returns : goal.returns
 returns c =
-    let q = c.args.self.now.needs.now in
-    let r = c.args.self.now.records.records.bytes.now in
-    let counted = rw c.args.self.now.counted at c.count_neighbours-lines.ensures.1 in
-    let low : degree_too_high (length q) c.args.self.now.records.records.count r ≡ false = sym (too_high_counted counted) ∙ sym c.degree_too_high.ensures ∙ c.if-degree_too_high.false in
-    let above : not c.needs_can_be_met.result ≡ need_above_degree (length q) q c.args.self.now.records.records.count r = ap not c.needs_can_be_met.ensures ∙ above_counted q counted in
-    let asked : c.entries.result ≡ table_entries (length q) (pair_count c.args.self.now.records.records.count r) = omega (arith, c.entries.ensures, c.count_neighbours-lines.ensures.0) in
+    let s = c.args.self.now in
+    let q = s.needs.now in
+    let r = s.sorted.records in
+    let counted = rw s.counted at c.count_neighbours-lines.ensures.1 in
+    let low : degree_too_high (length q) r.count r.bytes.now ≡ false = sym (too_high_counted counted) ∙ sym c.degree_too_high.ensures ∙ c.if-degree_too_high.false in
+    let above : not c.needs_can_be_met.result ≡ need_above_degree (length q) q r.count r.bytes.now = ap not c.needs_can_be_met.ensures ∙ above_counted q counted in
+    let asked : c.entries.result ≡ table_entries (length q) (pair_count r.count r.bytes.now) = omega (arith, c.entries.ensures, c.count_neighbours-lines.ensures.0) in
     pass low
     (pass (sym above ∙ ap not c.if-not-needs_can_be_met.false)
     (not-below refl asked c.if-table-entries.false

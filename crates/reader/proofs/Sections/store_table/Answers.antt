@@ -12,12 +12,11 @@ store_rows-requires-clause-counted c = rw c.args.self.now.counted c.requires.cou
 pub store_rows-requires-clause-section_in_bounds : goal.store_rows-requires-clause-section_in_bounds
 store_rows-requires-clause-section_in_bounds c =
     let s = c.args.self.now in
-    let r = s.records in
     omega (
       arith,
       s.counted,
       c.starts_from.ensures,
-      laid-length (ordered r.few r.sound r.sorted),
+      laid-length (ordered s.sorted),
       c.requires.room,
       c.store_weights.auto.table,
       c.store_needs.auto.table,
@@ -26,7 +25,7 @@ store_rows-requires-clause-section_in_bounds c =
 pub returns : goal.returns
 returns c =
     let s = c.args.self.now in
-    let r = s.records.records in
+    let r = s.sorted.records in
     let n = length s.needs.now in
     built _ s.needs.now _ (neighbours n r.count r.bytes.now) (length-map_below n (weight_in s.weights.now)) c.weights_from.ensures c.starts_from.ensures
     c.store_needs.ensures c.store_weights.ensures (rw s.counted at c.store_rows.ensures)
