@@ -262,7 +262,8 @@ impl Records<'_> {
         ends.first < before.first
     }
 
-    // Whether one of them is out of order.
+    // Whether one of them is out of order. Not inlined, since within Read the loop has too few registers and takes longer.
+    #[inline(never)]
     pub fn out_of_order(&self) -> bool
         ensures { result ≡ out_of_order self.now.count self.now.bytes.now }
     {
