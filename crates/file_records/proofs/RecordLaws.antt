@@ -8,11 +8,17 @@ use Rattle.table_spec.specs.Limits.{max_buses}
 use Rattle.row_builder.specs.GrowingRows.{AllZero, GrowingRows}
 use Rattle.row_builder.proofs.GrowingLaws.{length_grown, growing_same, growing_fits, growing_next}
 use Rattle.file_spec.specs.FileBytes.{first_end, second_end}
+use Rattle.file_spec.proofs.SoundSections.{ends_facts}
 use Rattle.file_spec.specs.Records.{neighbours, repeats}
 use Rattle.file_spec.proofs.RecordPairs.{neighbours-none, neighbours-le, neighbours_again, neighbours_grows}
 use Rattle.file_spec.specs.OrderedRecords.{OrderedRecords}
 use Rattle.file_spec.proofs.OrderedRecords.{rows-le, repeats_by, repeats_facts, rows_grow}
+use Rattle.file_records.specs.declared.SortedRecords.{SortedRecords}
 use Rattle.file_records.specs.RecordSteps.{equals_last, NeighbourCounts}
+
+-- what the type of sorted records says, as laws ask for it
+pub ordered : (s : SortedRecords) → OrderedRecords s.buses s.records.count s.records.bytes.now
+ordered s = record { buses = s.few.0; lines = s.few.1; ends = ends_facts _ _ _ s.sound; order = s.sorted }
 
 -- without records every count is 0
 pub counts-none : (n : ℕ) (r : List ℕ) {counts : List ℕ} → AllZero counts → NeighbourCounts n 0 r counts

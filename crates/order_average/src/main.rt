@@ -4,7 +4,7 @@
 // network is seen to be refused once a need of it cannot be met, or a weight is out of range.
 #![tactic(auto)]
 
-ghost use Rattle.std.specs.Prelude.{◌<◌, ◌≤◌};
+ghost use Rattle.std.specs.Prelude.{◌<◌};
 
 use refusals::Refusal;
 use scorer::BusShare;
@@ -157,7 +157,7 @@ fn is_share(table: &[u16; ENTRIES], bus: usize, share: BusShare) -> bool {
 // A share by the first game's formula, 1/(d + 1) for the bus and each neighbour, each times its weight: wrong where needs are
 // not 1.
 fn wrong_share(small: Small, bus: usize, over: u64) -> BusShare
-    requires { (small.buses ≤ MOST) × (bus < MOST) }
+    requires { bus < MOST }
 {
     let mut numerator = 0u64;
     for other in 0..small.buses {
@@ -179,7 +179,7 @@ fn compare_bus(
     share: BusShare,
     average: Average,
 )
-    requires { (small.buses ≤ MOST) × (bus < MOST) }
+    requires { bus < MOST }
 {
     let degree = small.neighbours[bus].size();
     counts.needs.count(u32::from(small.needs[bus]), degree);
@@ -203,9 +203,7 @@ fn average_of(gains: Gains, bus: usize) -> Average
 
 // Compares the shares of a network, of which all orders were gone through. Where Shares refuses it, so does Share, and each
 // of its buses counts as different.
-fn compare_shares(counts: &mut Counts, small: Small, gains: Gains)
-    requires { small.buses ≤ MOST }
-{
+fn compare_shares(counts: &mut Counts, small: Small, gains: Gains) {
     let table = table(small);
     let shares = shares_of(&table).unwrap_or_default();
     for bus in 0..small.buses {
@@ -216,9 +214,7 @@ fn compare_shares(counts: &mut Counts, small: Small, gains: Gains)
 
 // Compares the averages with the shares without weights, each times its bus's own weight: wrong where neighbours have other
 // weights, since the term for a neighbour takes the neighbour's.
-fn compare_own_weights(counts: &mut Counts, small: Small, gains: Gains)
-    requires { small.buses ≤ MOST }
-{
+fn compare_own_weights(counts: &mut Counts, small: Small, gains: Gains) {
     let shares = shares_of(&table(choice::unweighted(small))).unwrap_or_default();
     for bus in 0..small.buses {
         let share = shares.of_bus(bus);
@@ -236,16 +232,12 @@ fn compare_own_weights(counts: &mut Counts, small: Small, gains: Gains)
 }
 
 // Whether Shares finds no network in the table.
-fn is_refused(small: Small) -> bool
-    requires { small.buses ≤ MOST }
-{
+fn is_refused(small: Small) -> bool {
     matches!(shares_of(&table(small)), Err(Refusal::NoNetwork))
 }
 
 // Raises the need of each bus in turn until it cannot be met.
-fn raise_needs(counts: &mut Counts, small: Small)
-    requires { small.buses ≤ MOST }
-{
+fn raise_needs(counts: &mut Counts, small: Small) {
     for bus in 0..small.buses {
         count(&mut counts.unmet, 1);
         if !is_refused(choice::raised(small, bus)) {
@@ -256,7 +248,7 @@ fn raise_needs(counts: &mut Counts, small: Small)
 
 // Gives a bus a weight that none may have.
 fn take_out_of_range(counts: &mut Counts, small: Small, bus: usize, weight: u16)
-    requires { (small.buses ≤ MOST) × (bus < MOST) }
+    requires { bus < MOST }
 {
     count(&mut counts.out_of_range, 1);
     if !is_refused(choice::reweighted(small, bus, weight)) {
@@ -265,18 +257,14 @@ fn take_out_of_range(counts: &mut Counts, small: Small, bus: usize, weight: u16)
 }
 
 // Gives each bus in turn weight 0, and one above the highest.
-fn change_weights(counts: &mut Counts, small: Small)
-    requires { small.buses ≤ MOST }
-{
+fn change_weights(counts: &mut Counts, small: Small) {
     for bus in 0..small.buses {
         take_out_of_range(counts, small, bus, 0);
         take_out_of_range(counts, small, bus, choice::WEIGHT + 1);
     }
 }
 
-fn compare(counts: &mut Counts, small: Small)
-    requires { small.buses ≤ MOST }
-{
+fn compare(counts: &mut Counts, small: Small) {
     let gains = all_orders(small);
     count(&mut counts.networks, 1);
     count(&mut counts.orders, gains.orders);

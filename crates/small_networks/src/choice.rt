@@ -167,13 +167,11 @@ pub fn raised(mut small: Small, bus: usize) -> Small
 }
 
 // The same network with weight 1 everywhere.
-pub fn unweighted(small: Small) -> Small
+pub fn unweighted(mut small: Small) -> Small
     ensures { result.buses ≡ small.buses }
 {
-    Small {
-        weights: [1; MOST],
-        ..small
-    }
+    small.weights = [1; MOST];
+    small
 }
 
 // The same network with another weight at one bus.

@@ -3,6 +3,7 @@
 #![tactic(auto)]
 
 ghost use Rattle.std.specs.Prelude.{◌<◌, ◌≤◌};
+ghost use Rattle.small_networks.specs.declared.TheConstants.{MOST};
 
 pub mod average;
 pub mod choice;
@@ -48,6 +49,7 @@ pub struct Small {
     pub needs: [u16; MOST],
     pub weights: [u16; MOST],
     pub neighbours: [BusSet; MOST],
+    pub ghost few: { buses ≤ MOST },
 }
 
 // The neighbours of each bus, where each bus has the set of those of lower numbers that it is joined to. What the set has of

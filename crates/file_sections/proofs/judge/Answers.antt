@@ -16,18 +16,16 @@ lines : (f : List ℕ) {m : ℕ} → gives m ≡ outcome (line_count_causes f) (
 lines f e = let z = no_cause (line_count_causes f) (file_line_count f) (sym e) in (z.1, omega (arith, lines_passed f z.0, z.1))
 
 pub line_count-requires : goal.line_count-requires
-line_count-requires c = buses c.args.file.now c.in_ok-n.ensures
+line_count-requires c = buses c.args.file.now c.in_ok-buses.ensures
 
-pub records_end-requires : goal.records_end-requires
-records_end-requires c =
+pub invariant_of-counted : goal.invariant_of-counted
+invariant_of-counted c =
     let f = c.args.file.now in
-    let n = buses f c.in_ok-n.ensures in
-    let m = lines f c.in_ok-m.ensures in
-    (n.0, n.1, m.0, m.1)
+    let n = buses f c.in_ok-buses.ensures in
+    let m = lines f c.in_ok-lines.ensures in
+    record { counted = (n.0, m.0); few = (n.1, m.1) }
 
 pub judge_weights-requires : goal.judge_weights-requires
 judge_weights-requires c =
     let f = c.args.file.now in
-    let n = buses f c.in_ok-n.ensures in
-    let m = lines f c.in_ok-m.ensures in
-    (n.0, n.1, m.0, m.1, (no_cause (missing_causes f) (records_end f) (sym c.in_ok-end.ensures)).1)
+    (no_cause (missing_causes f) (records_end f) (sym c.in_ok-end.ensures)).1

@@ -1,8 +1,0 @@
--- The neighbours and the pairs of the records passed are counted.
-use Rattle.std.proofs.Common.{◌≡◌}
-use Rattle.file_spec.specs.Records.{pair_count}
-use Rattle.file_records.specs.RecordSteps.{NeighbourCounts}
-use Rattle.file_records.proofs.count_neighbours.Given as goal
-
-abbrev pub invariant-loop-k : goal.invariant-loop-k
-invariant-loop-k l = (l.pairs ≡ pair_count l.k l.section) × NeighbourCounts l.n l.k l.section l.counts
