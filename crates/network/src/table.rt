@@ -112,6 +112,7 @@ impl<'a> Table<'a> {
     // How many buses.
     pub fn buses(&self) -> usize
         ensures value { result ≡ bus_count self.now }
+        ensures small { result ≤ max_buses }
         ensures scorable { Scorable self.now }
     {
         bus_count(self.slice)

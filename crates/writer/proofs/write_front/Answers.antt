@@ -2,7 +2,6 @@ use Rattle.std.proofs.Common.{length, sym, ap, subst, ◌∙◌, arith}
 use Rattle.table_spec.specs.Holds.{NeedsInRange}
 use Rattle.table_spec.proofs.Rows.{length-needs}
 use Rattle.table_spec.proofs.Facts.{holds-needs}
-use Rattle.table_spec.proofs.LineCount.{lines-le}
 use Rattle.write_spec.specs.FileOf.{word}
 use Rattle.write_spec.proofs.PairLaws.{length-pair_records}
 use Rattle.writer.proofs.FileWriting.{length-front_of, front_written}
@@ -10,7 +9,7 @@ use Rattle.writer.proofs.write_front.Goals as goal
 
 pub write_word-needs_at-requires : goal.write_word-needs_at-requires
 write_word-needs_at-requires c =
-    (omega (arith, c.buses.ensures.value, c.buses.ensures.scorable.complete.most), omega (arith, c.requires, length-front_of _ c.table-table.ensures.network))
+    (omega arith, omega (arith, c.requires, length-front_of _ c.table-table.ensures.network))
 
 -- the bus count is written: the needs follow at place 2, and there is space for the rest
 pub write_needs-lines_at-requires : goal.write_needs-lines_at-requires
@@ -31,7 +30,7 @@ write_word-pairs_at-requires c =
     let held = c.table-table.ensures.network in
     let e = rw c.table-table.ensures.value at c.needs.ensures.value in
     let counted = ap length e ∙ length-needs _ held.shape.complete in (
-      omega (arith, c.lines.ensures.value, lines-le _ held),
+      omega arith,
       omega (arith, v.ensures.0, w.ensures.0, counted, v.auto.out, w.auto.out, length-front_of _ held, c.requires),
     )
 
