@@ -21,7 +21,6 @@ pub mod JoinBelow
 pub mod ListBelow
 pub mod Loops
 pub mod Places
-pub mod Ranges
 pub mod Sums
 pub mod SumsBelow
 pub mod Tests

@@ -39,11 +39,11 @@ module _ {t : List ℕ} {k a b L m : ℕ} (h : Holds t × (k < lines t) × (bus_
   weak = rw (e.0, e.1) o.1
 
   -- what is asked of the lower end, and of the upper one
-  pub lower_asked : Holds t × (a < bus_count t) × Over t L
-  lower_asked = (h.0, lower_inside h.0 line, o.0)
+  pub lower_asked : (a < bus_count t) × Over t L
+  lower_asked = (lower_inside h.0 line, o.0)
 
-  pub upper_asked : Holds t × (b < bus_count t) × Over t L
-  upper_asked = (h.0, line.inside, o.0)
+  pub upper_asked : (b < bus_count t) × Over t L
+  upper_asked = (line.inside, o.0)
 
   pub lower_divided : Divided (length (without (b ∷ []) (row t a))) L
   lower_divided =

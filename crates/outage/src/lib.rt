@@ -7,7 +7,6 @@ ghost use Rattle.signed.specs.Signed.{difference, signed_below};
 ghost use Rattle.refusals.specs.Outcomes.{outcome_of};
 ghost use Rattle.table_spec.specs.Limits.{max_weight};
 ghost use Rattle.table_spec.specs.Layout.{bus_count, row, need, weight, lines};
-ghost use Rattle.table_spec.specs.Holds.{Holds};
 ghost use Rattle.table_spec.specs.Lines.{lower_end, upper_end};
 ghost use Rattle.share_spec.specs.TableNetwork.{Over};
 ghost use Rattle.share_spec.specs.TermsGiven.{terms_from};
@@ -21,11 +20,10 @@ ghost use Rattle.outage.specs.StudyWork.{Above, Room};
 use network::Network;
 pub use network::Refusal;
 use network::rows::entry;
-use network::table::{bus_count, lines, need, neighbours, weight};
 pub use share_terms::denominator;
 use share_terms::{add_terms, unit};
 use signed::less;
-use table_check::holds;
+use table_check::network;
 
 // The two ends of a line.
 #[derive(Clone, Copy)]
@@ -43,13 +41,14 @@ fn first_above(row: &[u16], bus: usize) -> usize
 }
 
 // The ends of a line. Lines are counted at their lower ends: a bus has as many there as its row has buses above it.
-fn ends_of(table: &[u16], line: usize) -> Ends
-    requires { Holds table.now × (line < lines table.now) }
-    ensures { (result.lower ≡ lower_end table.now line) × (result.upper ≡ upper_end table.now line) }
+fn ends_of(network: &Network, line: usize) -> Ends
+    requires { line < lines network.now }
+    ensures { (result.lower ≡ lower_end network.now line) × (result.upper ≡ upper_end network.now line) }
 {
+    let table = network.table();
     let mut rest = line;
-    for bus in 0..bus_count(table) {
-        let row = neighbours(table, bus);
+    for bus in 0..table.buses() {
+        let row = table.neighbours(bus);
         let first = first_above(row, bus);
         let above = row.len() - first;
         if rest < above {
@@ -81,23 +80,24 @@ fn leave_out(row: &[u16], bus: usize, left: &mut [u16]) -> usize
 
 // Adds the terms of one end of a line: those with the line to the sums before its loss, those without it to the sums after it.
 fn add_end(
-    table: &[u16],
+    network: &Network,
     over: u64,
     end: usize,
     other: usize,
     before: &mut [u64],
     after: &mut [u64],
 )
-    requires holds { Holds table.now × (end < bus_count table.now) × Over table.now over }
-    requires divided { Divided (length (without (other ∷ []) (row table.now end))) over }
-    requires room_before { Room (max_weight * over) before.old × (bus_count table.now ≤ length before.old) }
-    requires room_after { Room (max_weight * over) after.old × (bus_count table.now ≤ length after.old) }
-    ensures added_before { Added (terms_from (weight table.now end) (need table.now end) (row table.now end) over end) before.old before.new }
-    ensures added_after { Added (terms_from (weight table.now end) (need table.now end) (without (other ∷ []) (row table.now end)) over end) after.old after.new }
+    requires end { (end < bus_count network.now) × Over network.now over }
+    requires divided { Divided (length (without (other ∷ []) (row network.now end))) over }
+    requires room_before { Room (max_weight * over) before.old × (bus_count network.now ≤ length before.old) }
+    requires room_after { Room (max_weight * over) after.old × (bus_count network.now ≤ length after.old) }
+    ensures added_before { Added (terms_from (weight network.now end) (need network.now end) (row network.now end) over end) before.old before.new }
+    ensures added_after { Added (terms_from (weight network.now end) (need network.now end) (without (other ∷ []) (row network.now end)) over end) after.old after.new }
 {
-    let row = neighbours(table, end);
-    let weight = weight(table, end);
-    let need = need(table, end);
+    let table = network.table();
+    let row = table.neighbours(end);
+    let weight = table.weight(end);
+    let need = table.need(end);
     add_terms(over, weight, need, row, unit(over, row.len()), end, before);
     let mut left = [0u16; Network::LINES_AT_BUS];
     let many = leave_out(row, other, &mut left);
@@ -125,33 +125,34 @@ fn store(before: &[u64], after: &[u64], n: usize, changes: &mut [i64])
 
 // Stores the changes of all buses when a line goes out, over any L that makes their terms whole with the line and without it. Of all terms only those of
 // the line's ends move. For callers who study many lines of a network: neither the table nor its L is looked at again.
-pub fn study_over(table: &[u16], line: usize, over: u64, changes: &mut [i64])
-    requires holds { Holds table.now × (line < lines table.now) × (bus_count table.now ≤ length changes.old) }
-    requires whole { Over table.now over × Over (without_line table.now line) over }
-    ensures { changes.new ≡ signed_below (bus_count table.now) (change_over (network_of table.now) (network_of (without_line table.now line)) over) ++ drop (bus_count table.now) changes.old }
+pub fn study_over(network: &Network, line: usize, over: u64, changes: &mut [i64])
+    requires line { (line < lines network.now) × (bus_count network.now ≤ length changes.old) }
+    requires whole { Over network.now over × Over (without_line network.now line) over }
+    ensures { changes.new ≡ signed_below (bus_count network.now) (change_over (network_of network.now) (network_of (without_line network.now line)) over) ++ drop (bus_count network.now) changes.old }
 {
-    let Ends { lower, upper } = ends_of(table, line);
+    let table = network.table();
+    let Ends { lower, upper } = ends_of(network, line);
     let mut before = [0u64; Network::BUSES];
     let mut after = [0u64; Network::BUSES];
-    add_end(table, over, lower, upper, &mut before, &mut after);
-    add_end(table, over, upper, lower, &mut before, &mut after);
-    store(&before, &after, bus_count(table), changes);
+    add_end(network, over, lower, upper, &mut before, &mut after);
+    add_end(network, over, upper, lower, &mut before, &mut after);
+    store(&before, &after, table.buses(), changes);
 }
 
-// The study of a table that was tested.
-pub fn study(table: &[u16], line: usize, changes: &mut [i64]) -> Result<u64, Refusal>
-    requires { Holds table.now }
-    ensures answer { outcome_of result ≡ study_outcome table.now line (length changes.old) }
-    ensures stored { changes.new ≡ changes_after table.now line changes.old }
+// The study of a network.
+pub fn study(network: &Network, line: usize, changes: &mut [i64]) -> Result<u64, Refusal>
+    ensures answer { outcome_of result ≡ study_outcome network.now line (length changes.old) }
+    ensures stored { changes.new ≡ changes_after network.now line changes.old }
 {
-    if lines(table) <= line {
+    let table = network.table();
+    if network.lines() <= line {
         return Err(Refusal::NoSuchLine);
     }
-    if changes.len() < bus_count(table) {
+    if changes.len() < table.buses() {
         return Err(Refusal::NumeratorsTooShort);
     }
     let over = denominator(table);
-    study_over(table, line, over, changes);
+    study_over(network, line, over, changes);
     Ok(over)
 }
 
@@ -161,8 +162,5 @@ pub fn changes(table: &[u16], line: usize, changes: &mut [i64]) -> Result<u64, R
     ensures stored { changes.new ≡ changes_after table.now line changes.old }
     ensures fair { AllStudied table.now line (length changes.old) (outcome_of result) changes.new }
 {
-    if !holds(table) {
-        return Err(Refusal::NoNetwork);
-    }
-    study(table, line, changes)
+    study(&network(table)?, line, changes)
 }

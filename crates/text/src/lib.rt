@@ -5,8 +5,6 @@ ghost use Rattle.std.specs.Prelude.{◌+◌, ◌≤◌, length};
 ghost use Rattle.lists.specs.Lists.{count, WrittenAt};
 ghost use Rattle.text.specs.Text.{decimal, signed_decimal, sign, filled};
 
-use signed::{is_negative, magnitude};
-
 // Writes a number, and gives the place behind it.
 fn decimal(value: u64, out: &mut [u8], at: usize) -> usize
     requires { at + length (decimal value) ≤ length out.old }
@@ -26,11 +24,11 @@ pub fn signed_decimal(value: i64, out: &mut [u8], at: usize) -> usize
     requires { at + length (signed_decimal value) ≤ length out.old }
     ensures { WrittenAt (signed_decimal value) at out.old result out.new }
 {
-    if is_negative(value) {
+    if value.is_negative() {
         out[at] = b'-';
-        return decimal(magnitude(value), out, at + 1);
+        return decimal(value.unsigned_abs(), out, at + 1);
     }
-    decimal(magnitude(value), out, at)
+    decimal(value.unsigned_abs(), out, at)
 }
 
 // Writes a template with its numbers, and gives the place behind it.

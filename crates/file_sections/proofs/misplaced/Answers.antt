@@ -7,10 +7,14 @@ pub returns-then-ends : goal.returns-then-ends
 unfolding turned
 returns-then-ends c = let e = c.ends_of-ends.ensures in grind (arith, nat_tests)
 
-pub returns-then-k-gt0 : goal.returns-then-k-gt0
-unfolding turned falls pair_below
-returns-then-k-gt0 c = let e = c.ends_of-ends.ensures in let f = c.ends_of.ensures in grind (arith, nat_tests)
-
-pub returns-else-k-gt0 : goal.returns-else-k-gt0
+pub returns-then-k-eq0 : goal.returns-then-k-eq0
 unfolding turned falls
-returns-else-k-gt0 c = let e = c.ends_of-ends.ensures in grind (arith, nat_tests)
+returns-then-k-eq0 c = let e = c.ends_of-ends.ensures in grind (arith, nat_tests)
+
+pub returns-then-ends-before : goal.returns-then-ends-before
+unfolding turned falls pair_below
+returns-then-ends-before c = let e = c.ends_of-ends.ensures in let f = c.ends_of-before.ensures in grind (arith, nat_tests)
+
+pub returns : goal.returns
+unfolding turned falls pair_below
+returns c = let e = c.ends_of-ends.ensures in let f = c.ends_of-before.ensures in grind (arith, nat_tests)

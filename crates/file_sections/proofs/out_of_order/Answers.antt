@@ -1,14 +1,16 @@
-use Rattle.std.proofs.Common.{◌∙◌, ◌||◌, refl, rules, tests, arith}
-use Rattle.std.proofs.lemmas.Iterator.{YieldsList-from_range}
-use Rattle.std.proofs.lemmas.Iterator.Search.{any_from_yields_List}
-use Rattle.lists.proofs.Ranges.{any_range}
-use Rattle.file_spec.specs.RecordOrder.{turned, falls, out_of_order}
+use Rattle.std.proofs.Common.{sym, ◌∙◌, arith}
+use Rattle.lists.proofs.Loops.{any_below_start, any_below_by, any_below_more}
+use Rattle.file_spec.specs.RecordOrder.{out_of_order}
 use Rattle.file_sections.proofs.out_of_order.Goals as goal
 
-pub returns : goal.returns
+pub loop-k-init : goal.loop-k-init
 unfolding out_of_order
-returns c =
-    let m = c.args.m in
-    let r = c.args.section.now in
-    any_from_yields_List (λ k. turned r k || falls r k) _ _ _ c.any.ensures.ran (YieldsList-from_range 0 m m refl (omega arith)) (λ x b q k. search (rules, tests))
-    ∙ any_range _ m
+loop-k-init c = any_below_start _
+
+pub returns-then-misplaced : goal.returns-then-misplaced
+unfolding out_of_order
+returns-then-misplaced c = sym (any_below_by _ _ c.loop-k.k (omega arith) (sym c.misplaced.ensures ∙ c.if-misplaced.true))
+
+pub loop-k-preserved : goal.loop-k-preserved
+unfolding out_of_order
+loop-k-preserved c = any_below_more _ _ c.loop-k.invariant (sym c.misplaced.ensures ∙ c.if-misplaced.false)

@@ -1,16 +1,18 @@
-use Rattle.std.proofs.Common.{◌∙◌, refl, rules, tests, arith}
-use Rattle.std.proofs.lemmas.Iterator.{YieldsList-from_range}
-use Rattle.std.proofs.lemmas.Iterator.Search.{all_from_yields_List}
-use Rattle.lists.proofs.Ranges.{all_range}
-use Rattle.file_spec.specs.FileBytes.{first_end, second_end}
-use Rattle.file_spec.specs.Sections.{two_buses, sound_ends}
+use Rattle.std.proofs.Common.{sym, ◌∙◌, below_more, arith}
+use Rattle.lists.proofs.Tests.{fails, never_both}
+use Rattle.file_spec.proofs.SoundSections.{two_facts, two_test, ends_facts, ends_test}
 use Rattle.file_sections.proofs.sound_ends.Goals as goal
 
+pub returns-then-not-two_buses : goal.returns-then-not-two_buses
+returns-then-not-two_buses c =
+    let e = c.ends_of-ends.ensures in
+    sym (fails _ (λ w. never_both (two_test _ _ _ (ends_facts _ _ _ w c.loop-k.k (omega arith)))
+    (rw (e.0, e.1) at (sym c.two_buses.ensures ∙ c.if-not-two_buses.true))))
+
+pub loop-k-preserved : goal.loop-k-preserved
+loop-k-preserved c =
+    let e = c.ends_of-ends.ensures in
+    below_more _ _ c.loop-k.invariant (two_facts _ _ _ (rw (e.0, e.1) at (sym c.two_buses.ensures ∙ c.if-not-two_buses.false)))
+
 pub returns : goal.returns
-unfolding sound_ends
-returns c =
-    let n = c.args.n in
-    let m = c.args.m in
-    let r = c.args.section.now in
-    all_from_yields_List (λ k. two_buses n (first_end r k) (second_end r k)) _ _ _ c.all.ensures.ran (YieldsList-from_range 0 m m refl (omega arith)) (λ x b q k. search (rules, tests))
-    ∙ all_range _ m
+returns c = sym (ends_test _ _ _ (λ k b. c.loop-k.invariant k (omega arith)))

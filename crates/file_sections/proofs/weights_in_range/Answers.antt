@@ -1,7 +1,7 @@
 use Rattle.std.proofs.Common.{◌∙◌, refl, sym, rules, tests, arith}
 use Rattle.std.proofs.lemmas.Iterator.{YieldsList-from_range}
 use Rattle.std.proofs.lemmas.Iterator.Search.{all_from_yields_List}
-use Rattle.lists.proofs.Ranges.{all_range}
+use Rattle.lists.proofs.Chains.{all_range}
 use Rattle.table_spec.specs.Limits.{max_weight}
 use Rattle.table_spec.specs.Holds.{within}
 use Rattle.file_spec.specs.FileBytes.{weight_in}

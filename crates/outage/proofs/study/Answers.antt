@@ -5,21 +5,31 @@ use Rattle.outage.proofs.study.Goals as goal
 
 pub returns-then-lines-line-clause-answer : goal.returns-then-lines-line-clause-answer
 returns-then-lines-line-clause-answer c =
-    (study_due _ _ _ (no_line c.args.table.now c.args.line c.args.changes.now (holds_test _ c.requires) c.lines.ensures (omega arith))).0
+    let held = holds_test _ c.table-table.ensures.network in
+    (study_due _ _ _ (no_line c.args.network.now c.args.line c.args.changes.now held c.lines.ensures.value (omega arith))).0
 
-pub returns-then-changes-bus_count-clause-answer : goal.returns-then-changes-bus_count-clause-answer
-returns-then-changes-bus_count-clause-answer c =
-    (study_due _ _ _
-    (too_few c.args.table.now c.args.line c.args.changes.now (holds_test _ c.requires) c.lines.ensures (omega arith) c.bus_count.ensures.0 (omega arith))).0
+pub returns-then-changes-buses-clause-answer : goal.returns-then-changes-buses-clause-answer
+returns-then-changes-buses-clause-answer c =
+    let held = holds_test _ c.table-table.ensures.network in
+    let n = rw c.table-table.ensures.value at c.buses.ensures.value in
+    (study_due _ _ _ (too_few c.args.network.now c.args.line c.args.changes.now held c.lines.ensures.value (omega arith) n (omega arith))).0
+
+pub study_over-requires-clause-line : goal.study_over-requires-clause-line
+study_over-requires-clause-line c = (omega (arith, c.lines.ensures.value), rw (← c.table-table.ensures.value) (omega (arith, c.buses.ensures.value)))
 
 pub study_over-requires-clause-whole : goal.study_over-requires-clause-whole
-study_over-requires-clause-whole c = line_over c.args.table.now (holds_test _ c.requires) c.args.line (omega arith) c.denominator-over.ensures
+study_over-requires-clause-whole c =
+    let l = rw c.table-table.ensures.value at c.denominator-over.ensures in
+    line_over c.args.network.now (holds_test _ c.table-table.ensures.network) c.args.line (omega (arith, c.lines.ensures.value)) l
 
 pub returns : goal.returns
 returns c =
-    let l = c.denominator-over.ensures in
+    let t = c.args.network.now in
+    let held = holds_test _ c.table-table.ensures.network in
+    let n = rw c.table-table.ensures.value at c.buses.ensures.value in
+    let l = rw c.table-table.ensures.value at c.denominator-over.ensures in
     let d =
     study_due _ _ _
-    (enough c.args.table.now c.args.line c.args.changes.now (holds_test _ c.requires) c.lines.ensures (omega arith) c.bus_count.ensures.0 (omega arith) l
-    (over_stored c.args.table.now c.args.line c.args.changes.now l c.study_over.ensures)) in
+    (enough t c.args.line c.args.changes.now held c.lines.ensures.value (omega arith) n (omega arith) l
+    (over_stored t c.args.line c.args.changes.now l c.study_over.ensures)) in
     record { answer = d.0; stored = d.1 }

@@ -10,18 +10,18 @@ bounds-out-at c = omega (arith, ap length (signed_below c.args.value (to_z-of_z 
 
 pub decimal-requires : goal.decimal-requires
 decimal-requires c =
-    omega (arith, ap length (signed_below c.args.value (to_z-of_z w64 _ c.ranges.value) c.is_negative.ensures c.magnitude.ensures c.if-is_negative.true), length-set c.args.out.now c.args.at minus)
+    omega (arith, ap length (signed_below c.args.value (to_z-of_z w64 _ c.ranges.value) c.is_negative.ensures c.unsigned_abs.ensures.value c.if-is_negative.true), length-set c.args.out.now c.args.at minus)
 
 -- The magnitude is written behind the sign.
 pub returns-then-is_negative : goal.returns-then-is_negative
 returns-then-is_negative c =
-    let below : signed_decimal c.args.value ≡ minus ∷ decimal c.magnitude.result =
-    signed_below c.args.value (to_z-of_z w64 _ c.ranges.value) c.is_negative.ensures c.magnitude.ensures c.if-is_negative.true in
-    let inside : c.args.at + (1 + length (decimal c.magnitude.result)) ≤ length c.args.out.now = omega (arith, ap length below) in
+    let below : signed_decimal c.args.value ≡ minus ∷ decimal c.unsigned_abs.result =
+    signed_below c.args.value (to_z-of_z w64 _ c.ranges.value) c.is_negative.ensures c.unsigned_abs.ensures.value c.if-is_negative.true in
+    let inside : c.args.at + (1 + length (decimal c.unsigned_abs.result)) ≤ length c.args.out.now = omega (arith, ap length below) in
     rw below (written-append c.args.out.now c.args.at (minus ∷ []) _ (omega arith) (written_entry c.args.out.now c.args.at minus (omega arith)) c.decimal.ensures)
 
 pub decimal-requires-2 : goal.decimal-requires-2
-decimal-requires-2 c = omega (arith, ap length (signed_above c.args.value (to_z-of_z w64 _ c.ranges.value) c.is_negative.ensures c.magnitude-2.ensures c.if-is_negative.false))
+decimal-requires-2 c = omega (arith, ap length (signed_above c.args.value (to_z-of_z w64 _ c.ranges.value) c.is_negative.ensures c.unsigned_abs-2.ensures.value c.if-is_negative.false))
 
 pub returns : goal.returns
-returns c = rw (signed_above c.args.value (to_z-of_z w64 _ c.ranges.value) c.is_negative.ensures c.magnitude-2.ensures c.if-is_negative.false) c.decimal-2.ensures
+returns c = rw (signed_above c.args.value (to_z-of_z w64 _ c.ranges.value) c.is_negative.ensures c.unsigned_abs-2.ensures.value c.if-is_negative.false) c.decimal-2.ensures

@@ -1,6 +1,6 @@
 use Rattle.std.proofs.Common.{refl, arith}
 use Rattle.lists.specs.Lists.{at}
-use Rattle.lists.proofs.Writes.{copied_none, copied_entry, copied_all}
+use Rattle.lists.proofs.Writes.{copied_none, copied_entry}
 use Rattle.writer.proofs.write_needs.Goals as goal
 
 pub loop-bus-init : goal.loop-bus-init
@@ -13,6 +13,3 @@ overflow_cast-out c = omega (arith, (c.requires.0 c.loop-bus.bus (omega arith)).
 pub loop-bus-preserved : goal.loop-bus-preserved
 unfolding at
 loop-bus-preserved c = copied_entry _ _ _ c.loop-bus.invariant refl c.requires.1 (omega arith)
-
-pub returns : goal.returns
-returns c = (refl, copied_all _ _ _ c.loop-bus.invariant (omega arith))
