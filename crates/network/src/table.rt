@@ -121,7 +121,7 @@ impl<'a> Table<'a> {
     // The needs.
     pub fn needs(&self) -> &'a [u16]
         ensures value { result.now ≡ needs self.now }
-        ensures scorable { Scorable self.now }
+        ensures long { length result.now ≡ bus_count self.now }
     {
         needs(self.slice)
     }
@@ -129,6 +129,7 @@ impl<'a> Table<'a> {
     // The weights.
     pub fn weights(&self) -> &'a [u16]
         ensures value { result.now ≡ weights self.now }
+        ensures long { length result.now ≡ bus_count self.now }
         ensures scorable { Scorable self.now }
     {
         weights(self.slice)

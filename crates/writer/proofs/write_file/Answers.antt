@@ -1,5 +1,4 @@
 use Rattle.std.proofs.Common.{length, sym, ap, ◌∙◌, arith}
-use Rattle.table_spec.proofs.Rows.{length-weights}
 use Rattle.write_spec.specs.FileOf.{all_ones, weight_section}
 use Rattle.write_spec.proofs.PairLaws.{length-file_of}
 use Rattle.writer.proofs.FileWriting.{length-front_of, file-written}
@@ -15,7 +14,7 @@ write_section-requires c =
     let f = c.write_front-weights_at in
     let held = c.table.ensures.network in (
       c.requires.0 ∙ ap all_ones (sym e),
-      omega (arith, ap length e, length-weights _ held.shape.complete, held.shape.complete.most),
+      omega (arith, c.weights-weights.ensures.long, c.weights-weights.ensures.scorable.complete.most),
       omega (arith, f.ensures.0, f.auto.out, ap (λ l. length (weight_section l)) e, length-file_of _ held, length-front_of _ held, c.requires.1),
     )
 

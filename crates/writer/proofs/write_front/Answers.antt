@@ -1,6 +1,5 @@
-use Rattle.std.proofs.Common.{length, sym, ap, subst, ◌∙◌, arith}
+use Rattle.std.proofs.Common.{sym, subst, arith}
 use Rattle.table_spec.specs.Holds.{NeedsInRange}
-use Rattle.table_spec.proofs.Rows.{length-needs}
 use Rattle.table_spec.proofs.Facts.{holds-needs}
 use Rattle.write_spec.specs.FileOf.{word}
 use Rattle.write_spec.proofs.PairLaws.{length-pair_records}
@@ -17,8 +16,9 @@ unfolding word
 write_needs-lines_at-requires c =
     let w = c.write_word-needs_at in
     let held = c.table-table.ensures.network in
-    let e = rw c.table-table.ensures.value at c.needs.ensures.value in
-    let counted = ap length e ∙ length-needs _ held.shape.complete in
+    let same = c.table-table.ensures.value in
+    let counted = rw same at c.needs.ensures.long in
+    let e = rw same at c.needs.ensures.value in
     (subst NeedsInRange (sym e) (holds-needs _ held), omega (arith, w.ensures.0, w.auto.out, length-front_of _ held, c.requires, counted))
 
 -- they are written: the number of lines follows behind them
@@ -28,8 +28,7 @@ write_word-pairs_at-requires c =
     let w = c.write_word-needs_at in
     let v = c.write_needs-lines_at in
     let held = c.table-table.ensures.network in
-    let e = rw c.table-table.ensures.value at c.needs.ensures.value in
-    let counted = ap length e ∙ length-needs _ held.shape.complete in (
+    let counted = rw c.table-table.ensures.value at c.needs.ensures.long in (
       omega arith,
       omega (arith, v.ensures.0, w.ensures.0, counted, v.auto.out, w.auto.out, length-front_of _ held, c.requires),
     )
@@ -41,8 +40,7 @@ write_pairs-requires c =
     let v = c.write_needs-lines_at in
     let m = c.write_word-pairs_at in
     let held = c.table-table.ensures.network in
-    let e = rw c.table-table.ensures.value at c.needs.ensures.value in
-    let counted = ap length e ∙ length-needs _ held.shape.complete in
+    let counted = rw c.table-table.ensures.value at c.needs.ensures.long in
     rw c.table-table.ensures.value
     (omega (arith, m.ensures.0, v.ensures.0, w.ensures.0, counted, m.auto.out, v.auto.out, w.auto.out, length-front_of _ held, c.requires, length-pair_records _ held))
 
