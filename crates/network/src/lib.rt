@@ -1,7 +1,7 @@
 // Networks: their limits, and what a line table has where. A network is a line table in a lent slice.
 #![tactic(auto)]
 
-ghost use Rattle.std.specs.Prelude.{ℕ, List, ◌≡◌};
+ghost use Rattle.std.specs.Prelude.{ℕ, List, ◌≡◌, ◌≤◌};
 ghost use Rattle.table_spec.specs.Limits.{max_buses, max_degree, max_need, max_weight, max_lines, max_entries, max_bytes};
 ghost use Rattle.table_spec.specs.Layout.{lines};
 ghost use Rattle.table_spec.specs.Holds.{within, can_be_met, Holds};
@@ -103,6 +103,7 @@ impl<'a> Network<'a> {
     // How many lines.
     pub fn lines(&self) -> usize
         ensures value { result ≡ lines self.now }
+        ensures small { result ≤ max_lines }
         ensures network { Holds self.now }
     {
         self.table.numbers().len() / 2

@@ -112,9 +112,27 @@ impl<'a> Table<'a> {
     // How many buses.
     pub fn buses(&self) -> usize
         ensures value { result ≡ bus_count self.now }
+        ensures small { result ≤ max_buses }
         ensures scorable { Scorable self.now }
     {
         bus_count(self.slice)
+    }
+
+    // The needs.
+    pub fn needs(&self) -> &'a [u16]
+        ensures value { result.now ≡ needs self.now }
+        ensures long { length result.now ≡ bus_count self.now }
+    {
+        needs(self.slice)
+    }
+
+    // The weights.
+    pub fn weights(&self) -> &'a [u16]
+        ensures value { result.now ≡ weights self.now }
+        ensures long { length result.now ≡ bus_count self.now }
+        ensures scorable { Scorable self.now }
+    {
+        weights(self.slice)
     }
 
     // The neighbour numbers.
@@ -139,7 +157,7 @@ impl<'a> Table<'a> {
         requires { bus < bus_count self.now }
         ensures { result ≡ need self.now bus }
     {
-        entry(needs(self.slice), bus)
+        entry(self.needs(), bus)
     }
 
     // The weight of a bus.
@@ -147,7 +165,7 @@ impl<'a> Table<'a> {
         requires { bus < bus_count self.now }
         ensures { (result ≡ weight self.now bus) × (result ≤ max_weight) }
     {
-        entry(weights(self.slice), bus) as u64
+        entry(self.weights(), bus) as u64
     }
 
     // Where the neighbours of a bus begin in the slice.

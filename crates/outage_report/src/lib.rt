@@ -4,13 +4,11 @@
 
 ghost use Rattle.std.specs.Prelude.{◌≡◌, ◌+◌, ◌≤◌, length};
 ghost use Rattle.lists.specs.Lists.{put, WrittenAt};
-ghost use Rattle.table_spec.specs.Holds.{Holds};
 ghost use Rattle.outage_report.specs.OutageReport.{line_of, lines_of, studied, printed};
 ghost use Rattle.outage_report.specs.ChangeRoom.{Small, longest_changes};
 
 use file_sections::word;
 use network::Network;
-use network::table::bus_count;
 use outage::study;
 use reader::{Refusal, read};
 use refused_line::write_refusal;
@@ -46,15 +44,15 @@ fn write_changes(changes: &[i64], out: &mut [u8]) -> usize
     end
 }
 
-// Writes the changes of all buses when a line goes out, or why the line is refused. The table is not tested.
-fn write_study(table: &[u16], line: usize, out: &mut [u8]) -> usize
-    requires { Holds table.now × (longest_changes ≤ length out.old) }
-    ensures written_at { WrittenAt (studied table.now line) 0 out.old result out.new }
+// Writes the changes of all buses of a network when a line goes out, or why the line is refused.
+fn write_study(network: &Network, line: usize, out: &mut [u8]) -> usize
+    requires { longest_changes ≤ length out.old }
+    ensures written_at { WrittenAt (studied network.now line) 0 out.old result out.new }
     ensures upper_bound { result ≤ longest_changes }
 {
-    let n = bus_count(table);
+    let n = network.table().buses();
     let mut changes = [0i64; Network::BUSES];
-    match study(table, line, &mut changes) {
+    match study(network, line, &mut changes) {
         Ok(_) => write_changes(&changes[..n], out),
         Err(cause) => write_refusal(cause, out),
     }
@@ -71,7 +69,7 @@ pub fn report(input: &[u8], out: &mut [u8; LONGEST_CHANGES]) -> usize
     let line = word(input, 0);
     let mut table = [0u16; Network::ENTRIES];
     match read(&input[2..], &mut table) {
-        Ok(_) => write_study(&table, line, out),
+        Ok(_) => write_study(&Network::new(&table), line, out),
         Err(cause) => write_refusal(cause, out),
     }
 }

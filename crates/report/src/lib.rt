@@ -18,7 +18,7 @@ pub fn report(file: &[u8], out: &mut [u8; LONGEST_SHEET]) -> usize
 {
     let mut table = [0u16; Network::ENTRIES];
     match read(file, &mut table) {
-        Ok(_) => write_sheet(&table, out),
+        Ok(_) => write_sheet(&Network::new(&table), out),
         Err(cause) => write_refusal(cause, out),
     }
 }

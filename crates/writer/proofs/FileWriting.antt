@@ -7,7 +7,7 @@ use Rattle.lists.proofs.JoinBelow.{join_below-same}
 use Rattle.lists.proofs.ListBelow.{join_below_members}
 use Rattle.lists.proofs.Writes.{written-append}
 use Rattle.table_spec.specs.Layout.{bus_count, needs, weights, row, lines}
-use Rattle.table_spec.specs.Holds.{ValidRow, Holds}
+use Rattle.table_spec.specs.Holds.{ValidRow, Scorable, Holds}
 use Rattle.table_spec.proofs.Rows.{valid_below, length-needs, row_valid}
 use Rattle.write_spec.specs.FileOf.{word, record_of, pair_records, weight_section, file_of}
 use Rattle.write_spec.proofs.PairLaws.{length-pair_records}
@@ -28,10 +28,10 @@ pairs_by_row n rows valid =
     (λ i b. join_below-same _ _ n (λ j _. above_first i j (has j (rows i)))
     ∙ join_below_members (rows i) n (record_above i) (valid i b).ascends (valid_below (valid i b)))
 
--- so are those of a network, whose bus count was read into n
-pub records_by_row : (t : List ℕ) {n : ℕ} → Holds t → n ≡ bus_count t → pair_records (bus_count t) (row t) ≡ join_below n (λ i. row_records i (row t i))
+-- so are those of a table, whose bus count was read into n
+pub records_by_row : (t : List ℕ) {n : ℕ} → Scorable t → n ≡ bus_count t → pair_records (bus_count t) (row t) ≡ join_below n (λ i. row_records i (row t i))
 records_by_row t w e =
-    pairs_by_row (bus_count t) (row t) (row_valid w.shape) ∙ ap (λ n. join_below n (λ i. row_records i (row t i))) (sym e)
+    pairs_by_row (bus_count t) (row t) (row_valid w) ∙ ap (λ n. join_below n (λ i. row_records i (row t i))) (sym e)
 
 -- so many bytes stand before the weights
 pub length-front_of : (t : List ℕ) → Holds t → length (front_of t) ≡ 2 + bus_count t + 2 + 4 * lines t

@@ -5,15 +5,16 @@ ghost use Rattle.std.specs.Prelude.{◌≡◌, ◌+◌, ◌≤◌, ◌<◌, leng
 ghost use Rattle.lists.specs.Lists.{WrittenAt};
 ghost use Rattle.refusals.specs.Outcomes.{outcome_of};
 ghost use Rattle.table_spec.specs.Layout.{bus_count, weights, row};
-ghost use Rattle.table_spec.specs.Holds.{NeedsInRange, Holds};
+ghost use Rattle.table_spec.specs.Holds.{NeedsInRange};
 ghost use Rattle.write_spec.specs.FileOf.{word, words, pair_records, all_ones, weight_section, file_of};
 ghost use Rattle.write_spec.specs.WriteOutcome.{write_outcome, bytes_after};
 ghost use Rattle.writer.specs.FileFront.{front_of};
 ghost use Rattle.writer.specs.RowRecords.{record_above, row_records};
 
+use network::Network;
 pub use network::Refusal;
-use network::table::{bus_count, lines, needs, neighbours, weights};
-use table_check::holds;
+use network::table::Table;
+use table_check::network;
 
 // Writes a number in two bytes, low byte first, and gives the place behind it.
 fn write_word(number: usize, out: &mut [u8], at: usize) -> usize
@@ -62,26 +63,26 @@ fn write_row(row: &[u16], bus: usize, out: &mut [u8], at: usize) -> usize
 }
 
 // Writes the records of a network, and gives the place behind them.
-fn write_pairs(table: &[u16], out: &mut [u8], at: usize) -> usize
-    requires { Holds table.now × (at + length (pair_records (bus_count table.now) (row table.now)) ≤ length out.old) }
+fn write_pairs(table: &Table, out: &mut [u8], at: usize) -> usize
+    requires { at + length (pair_records (bus_count table.now) (row table.now)) ≤ length out.old }
     ensures { WrittenAt (pair_records (bus_count table.now) (row table.now)) at out.old result out.new }
 {
-    let n = bus_count(table);
     let mut end = at;
-    for bus in 0..n {
-        end = write_row(neighbours(table, bus), bus, out, end);
+    for bus in 0..table.buses() {
+        end = write_row(table.neighbours(bus), bus, out, end);
     }
     end
 }
 
 // Writes the file of a network up to its weights at the front of bytes that are enough, and gives the place behind it.
-fn write_front(table: &[u16], out: &mut [u8]) -> usize
-    requires { Holds table.now × (length (front_of table.now) ≤ length out.old) }
-    ensures { WrittenAt (front_of table.now) 0 out.old result out.new }
+fn write_front(network: &Network, out: &mut [u8]) -> usize
+    requires { length (front_of network.now) ≤ length out.old }
+    ensures { WrittenAt (front_of network.now) 0 out.old result out.new }
 {
-    let needs_at = write_word(bus_count(table), out, 0);
-    let lines_at = write_needs(needs(table), out, needs_at);
-    let pairs_at = write_word(lines(table), out, lines_at);
+    let table = network.table();
+    let needs_at = write_word(table.buses(), out, 0);
+    let lines_at = write_needs(table.needs(), out, needs_at);
+    let pairs_at = write_word(network.lines(), out, lines_at);
     write_pairs(table, out, pairs_at)
 }
 
@@ -117,12 +118,12 @@ fn write_section(weights: &[u16], ones: bool, out: &mut [u8], at: usize) -> usiz
 }
 
 // How many bytes the file of a network has; `ones` says whether all weights are 1.
-fn byte_count(table: &[u16], ones: bool) -> usize
-    requires { Holds table.now × (ones ≡ all_ones (weights table.now)) }
-    ensures { result ≡ length (file_of table.now) }
+fn byte_count(network: &Network, ones: bool) -> usize
+    requires { ones ≡ all_ones (weights network.now) }
+    ensures { result ≡ length (file_of network.now) }
 {
-    let n = bus_count(table);
-    let front = 2 + n + 2 + 4 * lines(table);
+    let n = network.table().buses();
+    let front = 2 + n + 2 + 4 * network.lines();
     if ones {
         return front;
     }
@@ -130,12 +131,13 @@ fn byte_count(table: &[u16], ones: bool) -> usize
 }
 
 // Writes the file of a network at the front of bytes that are enough, and gives its byte count.
-fn write_file(table: &[u16], ones: bool, out: &mut [u8]) -> usize
-    requires { Holds table.now × (ones ≡ all_ones (weights table.now)) × (length (file_of table.now) ≤ length out.old) }
-    ensures { WrittenAt (file_of table.now) 0 out.old result out.new }
+fn write_file(network: &Network, ones: bool, out: &mut [u8]) -> usize
+    requires { (ones ≡ all_ones (weights network.now)) × (length (file_of network.now) ≤ length out.old) }
+    ensures { WrittenAt (file_of network.now) 0 out.old result out.new }
 {
-    let weights_at = write_front(table, out);
-    write_section(weights(table), ones, out, weights_at)
+    let weights = network.table().weights();
+    let weights_at = write_front(network, out);
+    write_section(weights, ones, out, weights_at)
 }
 
 // Writes the file of a network at the front of lent bytes, and gives its byte count.
@@ -143,12 +145,10 @@ pub fn write(table: &[u16], out: &mut [u8]) -> Result<usize, Refusal>
     ensures answer { outcome_of result ≡ write_outcome table.now (length out.old) }
     ensures written { out.new ≡ bytes_after table.now out.old }
 {
-    if !holds(table) {
-        return Err(Refusal::NoNetwork);
-    }
-    let ones = all_ones(weights(table));
-    if out.len() < byte_count(table, ones) {
+    let network = network(table)?;
+    let ones = all_ones(network.table().weights());
+    if out.len() < byte_count(&network, ones) {
         return Err(Refusal::BytesTooShort);
     }
-    Ok(write_file(table, ones, out))
+    Ok(write_file(&network, ones, out))
 }

@@ -20,6 +20,6 @@ returns-in-Ok c =
     let file = part 2 (length c.args.input.now) c.args.input.now in
     let k = c.word-line.result in
     let due =
-    ap (λ t. studied t k) e.stored ∙ print_studied file k (replicate max_entries 0) room (sym e.answer) ∙ print_file c.args.input.now c.if-input-lt2.false c.word-line.ensures.0 in
+    ap (λ t. studied t k) (c.new.ensures ∙ e.stored) ∙ print_studied file k (replicate max_entries 0) room (sym e.answer) ∙ print_file c.args.input.now c.if-input-lt2.false c.word-line.ensures.0 in
     let d = answered c.args.out.now c.write_study.ensures.written_at due (omega (arith, c.write_study.ensures.upper_bound, c.write_study.auto.out)) in
     record { answer = d.0; text = d.1 }

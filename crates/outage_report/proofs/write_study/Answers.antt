@@ -14,10 +14,12 @@ room = length-replicate {A = ℤ} max_buses (pos 0)
 
 pub write_changes-requires : goal.write_changes-requires
 write_changes-requires c =
-    (front_small c.args.table.now c.args.line lent c.bus_count-n.ensures.0 (sym c.in-Ok.ensures.answer) c.in-Ok.ensures.stored, c.requires.1)
+    let n = rw c.table.ensures.value at c.buses-n.ensures.value in
+    (front_small c.args.network.now c.args.line lent n (sym c.in-Ok.ensures.answer) c.in-Ok.ensures.stored, c.requires)
 
 pub returns-in-Ok-clause-written_at : goal.returns-in-Ok-clause-written_at
 returns-in-Ok-clause-written_at c =
+    let n = rw c.table.ensures.value at c.buses-n.ensures.value in
     let accepted = sym c.in-Ok.ensures.answer in
-    let text = front-lines c.args.table.now c.args.line lent c.bus_count-n.ensures.0 accepted c.in-Ok.ensures.stored ∙ print_changes c.args.table.now c.args.line room accepted in
+    let text = front-lines c.args.network.now c.args.line lent n accepted c.in-Ok.ensures.stored ∙ print_changes c.args.network.now c.args.line room accepted in
     rw text at c.write_changes.ensures.written_at

@@ -7,12 +7,13 @@ use Rattle.whole_sheet.specs.WholeSheet.{whole_sheet}
 use Rattle.report.proofs.Printing.{print_sheet}
 use Rattle.report.proofs.report.Goals as goal
 
-pub returns-in-Ok-clause-answer : goal.returns-in-Ok-clause-answer
-returns-in-Ok-clause-answer c =
-    let p = ap (λ t. whole_sheet (network_of t)) c.in-Ok.ensures.stored ∙ print_sheet c.args.file.now (replicate max_entries 0) (length-replicate {A = ℕ} max_entries 0) (sym c.in-Ok.ensures.answer) in
-    (omega (arith, c.write_sheet.ensures.written_at.0, ap length p), omega (arith, c.write_sheet.ensures.upper_bound, c.write_sheet.auto.out))
-
-pub returns-in-Ok-clause-text : goal.returns-in-Ok-clause-text
-returns-in-Ok-clause-text c =
-    let p = ap (λ t. whole_sheet (network_of t)) c.in-Ok.ensures.stored ∙ print_sheet c.args.file.now (replicate max_entries 0) (length-replicate {A = ℕ} max_entries 0) (sym c.in-Ok.ensures.answer) in
-    c.write_sheet.ensures.written_at.1 ∙ ap (put _ 0) p
+pub returns-in-Ok : goal.returns-in-Ok
+returns-in-Ok c =
+    let sheet = c.write_sheet.ensures in
+    let p =
+    ap (λ t. whole_sheet (network_of t)) (c.new.ensures ∙ c.in-Ok.ensures.stored)
+    ∙ print_sheet c.args.file.now (replicate max_entries 0) (length-replicate {A = ℕ} max_entries 0) (sym c.in-Ok.ensures.answer) in
+    record {
+      answer = (omega (arith, sheet.written_at.0, ap length p), omega (arith, sheet.upper_bound, c.write_sheet.auto.out));
+      text = sheet.written_at.1 ∙ ap (put _ 0) p;
+    }

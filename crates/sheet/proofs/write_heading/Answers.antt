@@ -8,10 +8,13 @@ use Rattle.sheet.proofs.write_heading.Goals as goal
 
 pub fill_template-requires : goal.fill_template-requires
 fill_template-requires c =
-    let read = heading_read (network_of c.args.table.now) c.bus_count-buses.ensures.0 c.lines-lines.ensures c.requires.1 in
-    (omega arith, line_room (held_short c.requires.0) zero-le (ap (filled heading_form) read) c.args.at c.requires.2)
+    let n = rw c.table.ensures.value at c.buses-buses.ensures.value in
+    let read = heading_read (network_of c.args.network.now) n c.lines-lines.ensures.value c.requires.0 in
+    (omega arith, line_room (held_short c.table.ensures.network) zero-le (ap (filled heading_form) read) c.args.at c.requires.1)
 
-pub returns-clause-upper_bound : goal.returns-clause-upper_bound
-returns-clause-upper_bound c =
-    let read = heading_read (network_of c.args.table.now) c.bus_count-buses.ensures.0 c.lines-lines.ensures c.requires.1 in
-    (line-written (held_short c.requires.0) zero-le (ap (filled heading_form) read) c.args.out.now c.args.at c.fill_template.ensures).1
+pub returns : goal.returns
+returns c =
+    let n = rw c.table.ensures.value at c.buses-buses.ensures.value in
+    let read = heading_read (network_of c.args.network.now) n c.lines-lines.ensures.value c.requires.0 in
+    let w = line-written (held_short c.table.ensures.network) zero-le (ap (filled heading_form) read) c.args.out.now c.args.at c.fill_template.ensures in
+    record { written_at = w.0; upper_bound = w.1 }

@@ -12,16 +12,18 @@ loop-bus-init c = (written_start _ _ _, omega arith)
 pub write_bus-end-requires-clause-over_value : goal.write_bus-end-requires-clause-over_value
 unfolding at
 write_bus-end-requires-clause-over_value c =
-    let b : c.loop-bus.bus < bus_count c.args.table.now = omega (arith, c.bus_count-n.ensures.0) in
-    (c.requires.1.over, c.requires.1.each c.loop-bus.bus b)
+    let n = rw c.table.ensures.value at c.buses-n.ensures.value in
+    let b : c.loop-bus.bus < bus_count c.args.network.now = omega (arith, n) in
+    (c.requires.0.over, c.requires.0.each c.loop-bus.bus b)
 
 pub loop-bus-preserved : goal.loop-bus-preserved
 loop-bus-preserved c = (
-  written_next _ _ _ c.loop-bus.invariant.0 (omega (arith, c.write_heading-end.ensures.upper_bound, c.write_heading-end.auto.out, c.requires.2)) refl c.write_bus-end.ensures.written_at,
+  written_next _ _ _ c.loop-bus.invariant.0 (omega (arith, c.write_heading-end.ensures.upper_bound, c.write_heading-end.auto.out, c.requires.1)) refl c.write_bus-end.ensures.written_at,
   omega (arith, c.write_bus-end.ensures.upper_bound, c.loop-bus.invariant.1),
 )
 
 pub returns-clause-written_at : goal.returns-clause-written_at
 returns-clause-written_at c =
-    let all : c.loop-bus.bus ≡ bus_count c.args.table.now = omega (arith, c.bus_count-n.ensures.0) in
-    all-written (network_of c.args.table.now) c.args.out.now c.write_heading-end.ensures.written_at all c.loop-bus.invariant.0
+    let n = rw c.table.ensures.value at c.buses-n.ensures.value in
+    let all : c.loop-bus.bus ≡ bus_count c.args.network.now = omega (arith, n) in
+    all-written (network_of c.args.network.now) c.args.out.now c.write_heading-end.ensures.written_at all c.loop-bus.invariant.0

@@ -1,7 +1,16 @@
-use Rattle.std.proofs.Common.{arith}
+use Rattle.std.proofs.Common.{List, ℕ, arith, take, replicate, length-take-le}
+use Rattle.table_spec.specs.Limits.{max_buses}
 use Rattle.two_way.specs.TwoWay.{network_of}
 use Rattle.whole_sheet.proofs.SheetWriting.{scored}
 use Rattle.whole_sheet.proofs.write_sheet.Goals as goal
 
+-- the entries that are made for numerators
+abbrev made : List ℕ
+made = replicate max_buses 0
+
 pub write_lines-requires : goal.write_lines-requires
-write_lines-requires c = (c.requires.0, scored (network_of c.args.table.now) _ (omega (arith, c.requires.0.shape.complete.most)) c.score-over.ensures.value c.score-over.ensures.numerators_after, c.requires.1)
+write_lines-requires c =
+    let n = rw c.table.ensures.value at c.buses.ensures.value in (
+      scored (network_of c.args.network.now) (take c.buses.result made) (omega (arith, n, length-take-le c.buses.result made)) c.score-over.ensures.value c.score-over.ensures.numerators_after,
+      c.requires,
+    )
