@@ -91,14 +91,21 @@ pub fn entries(n: usize, m: usize) -> usize
 #[derive(Drop)]
 pub struct Table<'a> {
     slice: &'a [u16],
+    needs: &'a [u16],
+    weights: &'a [u16],
+    starts: &'a [u16],
+    numbers: &'a [u16],
 }
 
 impl<'a> Model for Table<'a> {
+    ghost use Rattle.std.specs.Prelude.{ℕ, List};
+    ghost use Rattle.network.specs.TableParts.{TableParts};
+
     ghost Value = { List ℕ };
 
     ghost view = { λ t. t.slice.now };
 
-    ghost invariant = { λ t. Scorable t.slice.now };
+    ghost invariant = { λ t. TableParts t.slice.now t.needs.now t.weights.now t.starts.now t.numbers.now };
 }
 
 impl<'a> Table<'a> {
@@ -106,7 +113,14 @@ impl<'a> Table<'a> {
         requires { Scorable slice.now }
         ensures { result ≡ slice.now }
     {
-        Table { slice }
+        let from = starts_at(slice);
+        Table {
+            slice,
+            needs: needs(slice),
+            weights: weights(slice),
+            starts: starts(slice, from),
+            numbers: neighbour_numbers(slice, from),
+        }
     }
 
     // How many buses.
@@ -115,7 +129,7 @@ impl<'a> Table<'a> {
         ensures small { result ≤ max_buses }
         ensures scorable { Scorable self.now }
     {
-        bus_count(self.slice)
+        self.needs.len()
     }
 
     // The needs.
@@ -123,7 +137,7 @@ impl<'a> Table<'a> {
         ensures value { result.now ≡ needs self.now }
         ensures long { length result.now ≡ bus_count self.now }
     {
-        needs(self.slice)
+        self.needs
     }
 
     // The weights.
@@ -132,14 +146,14 @@ impl<'a> Table<'a> {
         ensures long { length result.now ≡ bus_count self.now }
         ensures scorable { Scorable self.now }
     {
-        weights(self.slice)
+        self.weights
     }
 
     // The neighbour numbers.
     pub fn numbers(&self) -> &'a [u16]
         ensures { result.now ≡ neighbour_numbers (starts_at self.now) self.now }
     {
-        neighbour_numbers(self.slice, starts_at(self.slice))
+        self.numbers
     }
 
     // The neighbours of a bus.
@@ -148,8 +162,7 @@ impl<'a> Table<'a> {
         ensures value { result.now ≡ row self.now bus }
         ensures scorable { Scorable self.now }
     {
-        let from = starts_at(self.slice);
-        row_at(starts(self.slice, from), self.numbers(), bus)
+        row_at(self.starts, self.numbers, bus)
     }
 
     // The need of a bus.
@@ -157,7 +170,7 @@ impl<'a> Table<'a> {
         requires { bus < bus_count self.now }
         ensures { result ≡ need self.now bus }
     {
-        entry(self.needs(), bus)
+        entry(self.needs, bus)
     }
 
     // The weight of a bus.
@@ -165,7 +178,7 @@ impl<'a> Table<'a> {
         requires { bus < bus_count self.now }
         ensures { (result ≡ weight self.now bus) × (result ≤ max_weight) }
     {
-        entry(self.weights(), bus) as u64
+        entry(self.weights, bus) as u64
     }
 
     // Where the neighbours of a bus begin in the slice.
@@ -173,7 +186,7 @@ impl<'a> Table<'a> {
         requires { bus < bus_count self.now }
         ensures { result ≡ row_start self.now bus }
     {
-        let from = starts_at(self.slice);
-        from + bus_count(self.slice) + 1 + entry(starts(self.slice, from), bus)
+        let first = starts_at(self.slice) + self.starts.len();
+        first + entry(self.starts, bus)
     }
 }

@@ -1,6 +1,5 @@
-use Rattle.std.proofs.Common.{ap, ◌∙◌, length}
-use Rattle.table_spec.proofs.Rows.{length-needs}
+use Rattle.network.proofs.PartLaws.{length_needed}
 use Rattle.network.proofs.table.Table.needs.Goals as goal
 
 pub returns-clause-long : goal.returns-clause-long
-returns-clause-long c = rw (← c.self.view_is) (ap length c.needs.ensures ∙ length-needs _ c.self.invariant.complete)
+returns-clause-long c = length_needed c.self.invariant c.self.view_is

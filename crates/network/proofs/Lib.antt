@@ -1,0 +1,2 @@
+-- Laws that proofs cite.
+pub mod PartLaws

@@ -1,0 +1,2 @@
+-- What a table's type knows of its parts.
+pub mod TableParts
