@@ -8,5 +8,5 @@ mod text;
 
 // Whether all could be printed is seen where the output is compared.
 fn main(rt: HostRuntime) {
-    let _ = cases::run(&rt);
+    cases::run(&rt);
 }

@@ -4,7 +4,7 @@
 // network is seen to be refused once a need of it cannot be met, or a weight is out of range.
 #![tactic(auto)]
 
-ghost use Rattle.std.specs.Prelude.{◌<◌};
+ghost use Rattle.std.specs.Prelude.{◌<◌, ◌≤◌};
 
 use refusals::Refusal;
 use scorer::BusShare;
@@ -65,49 +65,47 @@ impl Needs {
     }
 }
 
-impl fmt::Display for Needs {
+// A line that is printed: what was counted, and how often.
+#[derive(Clone, Copy)]
+struct Line(&'static str, u64);
+
+impl fmt::Display for Line {
     fn fmt<W: fmt::Write>(&self, f: &mut fmt::Formatter<W>) -> fmt::Result {
-        writeln!(f, "buses with a need above the degree {}", self.above)?;
-        writeln!(f, "buses with a need equal to it {}", self.equal)?;
-        writeln!(f, "buses with need 1 below it {}", self.one)?;
-        write!(f, "buses with a need between {}", self.between)
+        write!(f, "{} {}", self.0, self.1)
     }
 }
 
-// A line for each count.
-impl fmt::Display for Counts {
-    fn fmt<W: fmt::Write>(&self, f: &mut fmt::Formatter<W>) -> fmt::Result {
-        writeln!(f, "networks {}", self.networks)?;
-        writeln!(f, "orders gone through {}", self.orders)?;
-        writeln!(
-            f,
-            "orders whose gains do not add up to the total weight {}",
-            self.uneven
-        )?;
-        writeln!(f, "{}", self.needs)?;
-        writeln!(f, "shares that are not the average {}", self.different)?;
-        writeln!(
-            f,
-            "shares by the formula of need 1 that are not {}",
-            self.wrong
-        )?;
-        writeln!(
-            f,
-            "shares by own weights alone that are not {}",
-            self.own_weight
-        )?;
-        writeln!(
-            f,
-            "networks with a need raised until it cannot be met {}",
-            self.unmet
-        )?;
-        writeln!(f, "of these not refused {}", self.unmet_taken)?;
-        writeln!(
-            f,
-            "networks with a weight made 0 or 1001 {}",
-            self.out_of_range
-        )?;
-        write!(f, "of these not refused {}", self.out_of_range_taken)
+impl Counts {
+    fn lines(&self) -> [Line; 14] {
+        [
+            Line("networks", self.networks),
+            Line("orders gone through", self.orders),
+            Line(
+                "orders whose gains do not add up to the total weight",
+                self.uneven,
+            ),
+            Line("buses with a need above the degree", self.needs.above),
+            Line("buses with a need equal to it", self.needs.equal),
+            Line("buses with need 1 below it", self.needs.one),
+            Line("buses with a need between", self.needs.between),
+            Line("shares that are not the average", self.different),
+            Line("shares by the formula of need 1 that are not", self.wrong),
+            Line("shares by own weights alone that are not", self.own_weight),
+            Line(
+                "networks with a need raised until it cannot be met",
+                self.unmet,
+            ),
+            Line("of these not refused", self.unmet_taken),
+            Line("networks with a weight made 0 or 1001", self.out_of_range),
+            Line("of these not refused", self.out_of_range_taken),
+        ]
+    }
+
+    // Prints a line for each count. One that cannot be printed keeps none behind it from being tried.
+    fn print(&self, rt: &impl Print) {
+        for line in self.lines() {
+            let _ = println!(rt; "{line}");
+        }
     }
 }
 
@@ -157,7 +155,7 @@ fn is_share(table: &[u16; ENTRIES], bus: usize, share: BusShare) -> bool {
 // A share by the first game's formula, 1/(d + 1) for the bus and each neighbour, each times its weight: wrong where needs are
 // not 1.
 fn wrong_share(small: Small, bus: usize, over: u64) -> BusShare
-    requires { bus < MOST }
+    requires { (small.buses ≤ MOST) × (bus < MOST) }
 {
     let mut numerator = 0u64;
     for other in 0..small.buses {
@@ -179,7 +177,7 @@ fn compare_bus(
     share: BusShare,
     average: Average,
 )
-    requires { bus < MOST }
+    requires { (small.buses ≤ MOST) × (bus < MOST) }
 {
     let degree = small.neighbours[bus].size();
     counts.needs.count(u32::from(small.needs[bus]), degree);
@@ -203,7 +201,9 @@ fn average_of(gains: Gains, bus: usize) -> Average
 
 // Compares the shares of a network, of which all orders were gone through. Where Shares refuses it, so does Share, and each
 // of its buses counts as different.
-fn compare_shares(counts: &mut Counts, small: Small, gains: Gains) {
+fn compare_shares(counts: &mut Counts, small: Small, gains: Gains)
+    requires { small.buses ≤ MOST }
+{
     let table = table(small);
     let shares = shares_of(&table).unwrap_or_default();
     for bus in 0..small.buses {
@@ -214,7 +214,9 @@ fn compare_shares(counts: &mut Counts, small: Small, gains: Gains) {
 
 // Compares the averages with the shares without weights, each times its bus's own weight: wrong where neighbours have other
 // weights, since the term for a neighbour takes the neighbour's.
-fn compare_own_weights(counts: &mut Counts, small: Small, gains: Gains) {
+fn compare_own_weights(counts: &mut Counts, small: Small, gains: Gains)
+    requires { small.buses ≤ MOST }
+{
     let shares = shares_of(&table(choice::unweighted(small))).unwrap_or_default();
     for bus in 0..small.buses {
         let share = shares.of_bus(bus);
@@ -231,13 +233,20 @@ fn compare_own_weights(counts: &mut Counts, small: Small, gains: Gains) {
     }
 }
 
-// Whether Shares finds no network in the table.
-fn is_refused(small: Small) -> bool {
-    matches!(shares_of(&table(small)), Err(Refusal::NoNetwork))
+// Whether Shares finds no network in the table, number 11.
+fn is_refused(small: Small) -> bool
+    requires { small.buses ≤ MOST }
+{
+    match shares_of(&table(small)) {
+        Ok(_) => false,
+        Err(cause) => cause.number() == 11,
+    }
 }
 
 // Raises the need of each bus in turn until it cannot be met.
-fn raise_needs(counts: &mut Counts, small: Small) {
+fn raise_needs(counts: &mut Counts, small: Small)
+    requires { small.buses ≤ MOST }
+{
     for bus in 0..small.buses {
         count(&mut counts.unmet, 1);
         if !is_refused(choice::raised(small, bus)) {
@@ -248,7 +257,7 @@ fn raise_needs(counts: &mut Counts, small: Small) {
 
 // Gives a bus a weight that none may have.
 fn take_out_of_range(counts: &mut Counts, small: Small, bus: usize, weight: u16)
-    requires { bus < MOST }
+    requires { (small.buses ≤ MOST) × (bus < MOST) }
 {
     count(&mut counts.out_of_range, 1);
     if !is_refused(choice::reweighted(small, bus, weight)) {
@@ -257,14 +266,18 @@ fn take_out_of_range(counts: &mut Counts, small: Small, bus: usize, weight: u16)
 }
 
 // Gives each bus in turn weight 0, and one above the highest.
-fn change_weights(counts: &mut Counts, small: Small) {
+fn change_weights(counts: &mut Counts, small: Small)
+    requires { small.buses ≤ MOST }
+{
     for bus in 0..small.buses {
         take_out_of_range(counts, small, bus, 0);
         take_out_of_range(counts, small, bus, choice::WEIGHT + 1);
     }
 }
 
-fn compare(counts: &mut Counts, small: Small) {
+fn compare(counts: &mut Counts, small: Small)
+    requires { small.buses ≤ MOST }
+{
     let gains = all_orders(small);
     count(&mut counts.networks, 1);
     count(&mut counts.orders, gains.orders);
@@ -306,7 +319,9 @@ fn compare_chosen() -> Counts {
 // Whether it could all be printed is seen where the output is compared.
 fn main(rt: HostRuntime) {
     let all = compare_all();
-    let _ = println!(rt; "All networks of 1 to 5 buses with need 1 and weight 1\n{all}\n");
+    let _ = println!(rt; "All networks of 1 to 5 buses with need 1 and weight 1");
+    all.print(&rt);
     let chosen = compare_chosen();
-    let _ = println!(rt; "Networks of 1 to 7 buses with lines, needs and weights drawn\n{chosen}");
+    let _ = println!(rt; "\nNetworks of 1 to 7 buses with lines, needs and weights drawn");
+    chosen.print(&rt);
 }

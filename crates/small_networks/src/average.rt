@@ -16,7 +16,9 @@ fn is_seen(small: Small, fitted: BusSet, bus: usize) -> bool
 }
 
 // The value of a set of recorders: the weights of the buses that are seen, added up.
-fn value(small: Small, fitted: BusSet) -> u32 {
+fn value(small: Small, fitted: BusSet) -> u32
+    requires { small.buses ≤ MOST }
+{
     let mut sum = 0;
     for (bus, weight) in small.weights[..small.buses].iter().enumerate() {
         if is_seen(small, fitted, bus) {
@@ -50,7 +52,9 @@ fn has_order(buses: u32, number: u32) -> bool {
 
 // Fits the buses in the order of a number, adds each bus's gain to its sum, and gives the sum of all gains. A gain is how much
 // the value rises; were it to fall, the gain would wrap and be no small number.
-fn fit(small: Small, number: u32, sums: &mut [u32; MOST]) -> u32 {
+fn fit(small: Small, number: u32, sums: &mut [u32; MOST]) -> u32
+    requires { small.buses ≤ MOST }
+{
     let mut fitted = BusSet::default();
     let mut before = value(small, fitted);
     let mut gains = 0u32;
@@ -81,7 +85,9 @@ pub struct Gains {
 const LIMIT: u32 = 10_000;
 
 // Goes through all orders: up to the first number that is that of none.
-pub fn all_orders(small: Small) -> Gains {
+pub fn all_orders(small: Small) -> Gains
+    requires { small.buses ≤ MOST }
+{
     let buses = small.buses as u32;
     let orders = (0..LIMIT)
         .find(|number| !has_order(buses, *number))

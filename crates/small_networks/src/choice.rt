@@ -69,9 +69,9 @@ fn draw_all(mut state: u64) -> [u64; MOST] {
 // What is drawn for one network: a need, a set of lines and a weight for each bus, and a number to go on from.
 #[derive(Clone, Copy)]
 pub struct Draws {
-    needs: [u64; MOST],
-    lines: [u64; MOST],
-    weights: [u64; MOST],
+    pub needs: [u64; MOST],
+    pub lines: [u64; MOST],
+    pub weights: [u64; MOST],
     pub seed: u64,
 }
 

@@ -3,7 +3,6 @@
 #![tactic(auto)]
 
 ghost use Rattle.std.specs.Prelude.{◌<◌, ◌≤◌};
-ghost use Rattle.small_networks.specs.declared.TheConstants.{MOST};
 
 pub mod average;
 pub mod choice;
@@ -14,7 +13,7 @@ pub const MOST: usize = 7;
 
 // A set of buses: bus b is in it if the binary digit at place b is 1.
 #[derive(Clone, Copy, Default)]
-pub struct BusSet(u32);
+pub struct BusSet(pub u32);
 
 impl BusSet {
     pub fn has(self, bus: usize) -> bool
@@ -49,7 +48,6 @@ pub struct Small {
     pub needs: [u16; MOST],
     pub weights: [u16; MOST],
     pub neighbours: [BusSet; MOST],
-    pub ghost few: { buses ≤ MOST },
 }
 
 // The neighbours of each bus, where each bus has the set of those of lower numbers that it is joined to. What the set has of

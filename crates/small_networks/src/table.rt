@@ -8,7 +8,7 @@ pub const ENTRIES: usize = 1 + MOST + MOST + (MOST + 1) + MOST * MOST;
 
 // Lays the neighbours of a bus from a place on, and gives the place behind them.
 fn lay_row(table: &mut [u16; ENTRIES], small: Small, bus: usize, start: usize) -> usize
-    requires { (bus < MOST) × (start + MOST ≤ ENTRIES) }
+    requires { (small.buses ≤ MOST) × (bus < MOST) × (start + MOST ≤ ENTRIES) }
     ensures { (start ≤ result) × (result ≤ start + MOST) }
 {
     let mut place = start;
@@ -22,7 +22,9 @@ fn lay_row(table: &mut [u16; ENTRIES], small: Small, bus: usize, start: usize) -
 }
 
 // Lays the row starts, of which the first stays 0, and the rows.
-fn lay_rows(table: &mut [u16; ENTRIES], small: Small) {
+fn lay_rows(table: &mut [u16; ENTRIES], small: Small)
+    requires { small.buses ≤ MOST }
+{
     let starts = 1 + 2 * small.buses;
     let links = starts + small.buses + 1;
     let mut place = links;
@@ -32,7 +34,9 @@ fn lay_rows(table: &mut [u16; ENTRIES], small: Small) {
     }
 }
 
-pub fn table(small: Small) -> [u16; ENTRIES] {
+pub fn table(small: Small) -> [u16; ENTRIES]
+    requires { small.buses ≤ MOST }
+{
     let buses = small.buses;
     let mut table = [0u16; ENTRIES];
     table[0] = buses as u16;

@@ -28,18 +28,22 @@ fn is_text(file: &[u8]) -> bool {
     file.iter().all(|byte| *byte >= b'\t')
 }
 
+// Says the parts of a line on standard error. Each is tried, whatever became of those before it.
+fn say<W: Write>(errors: &mut W, parts: &[&str]) {
+    for part in parts {
+        let _ = errors.write_all(part.as_bytes());
+    }
+}
+
 // Says on standard error what may have gone wrong before, where the file shows it.
 fn warn<W: Write>(errors: &mut W, name: &str, file: &[u8]) {
     if file.is_empty() {
-        let _ = writeln!(
-            errors,
-            "{name}: the input is empty: what was to write it may have failed"
-        );
+        let what = ": the input is empty: what was to write it may have failed\n";
+        say(errors, &[name, what]);
     } else if is_text(file) {
-        let _ = writeln!(
-            errors,
-            "{name}: the input looks like a text: make a network file of it with ./network-file first"
-        );
+        let what =
+            ": the input looks like a text: make a network file of it with ./network-file first\n";
+        say(errors, &[name, what]);
     }
 }
 
@@ -63,9 +67,9 @@ fn put_words(error: Error, buffer: &mut [u8]) -> usize
 fn fail<W: Write>(errors: &mut W, name: &str, what: &str, error: Error) {
     let mut words = [0u8; 128];
     let length = put_words(error, &mut words);
-    let _ = write!(errors, "{name}: {what}: ");
+    say(errors, &[name, what, ": "]);
     let _ = errors.write_all(&words[..length]);
-    let _ = writeln!(errors);
+    say(errors, &["\n"]);
 }
 
 // Runs a program on standard input: reads it into a buffer, warns of the network file in it, which begins behind so many bytes, and has the program print
@@ -81,7 +85,7 @@ pub fn run<F: FnOnce(&[u8], &mut Stdout) -> io::Result<()>>(
 {
     let mut errors = rt.stderr();
     match read_input(&mut rt.stdin(), buffer) {
-        Err(error) => fail(&mut errors, name, "the input cannot be read", error),
+        Err(error) => fail(&mut errors, name, ": the input cannot be read", error),
         Ok(bytes) => {
             let input = &buffer[..bytes];
             warn(&mut errors, name, input.get(ahead..).unwrap_or(input));
@@ -89,7 +93,7 @@ pub fn run<F: FnOnce(&[u8], &mut Stdout) -> io::Result<()>>(
                 fail(
                     &mut errors,
                     name,
-                    "standard output cannot be written",
+                    ": standard output cannot be written",
                     error,
                 );
             }
