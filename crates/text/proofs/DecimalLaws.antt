@@ -83,3 +83,17 @@ no_leading_zero =
     by_tenths (λ n. 0 < n → 48 < at (decimal n) 0)
     (λ n l p. rw (decimal_small n l) (omega arith))
     (λ n l q p. rw (decimal-large n l, at-append (decimal (n / 10)) (digit (n % 10) ∷ []) 0 (decimal_pos (n / 10))) (q (omega arith)))
+
+-- a smaller number has no more digits
+decimal_grows : (m n : ℕ) → n ≤ m → length (decimal n) ≤ length (decimal m)
+decimal_grows =
+    by_tenths (λ m. (n : ℕ) → n ≤ m → length (decimal n) ≤ length (decimal m))
+    (λ m l n h. omega (arith, length_small m l, length_small n (omega arith)))
+    (λ m l q n h.
+    split (ltb n 10)
+    (λ e. omega (arith, decimal_pos m, length_small n (ltb-true n 10 e)))
+    (λ e. omega (arith, length-large m l, length-large n (ltb-false n 10 e), q (n / 10) (omega arith))))
+
+-- so it fits where a larger one does
+pub smaller_fits : (at m : ℕ) {n end : ℕ} → n ≤ m → at + length (decimal m) ≤ end → at + length (decimal n) ≤ end
+smaller_fits at m h fits = omega (arith, decimal_grows m _ h)

@@ -2,6 +2,7 @@ use Rattle.std.proofs.Common.{arith, ◌≡◌, ◌+◌, ◌≤◌, refl, ap, []
 use Rattle.std.proofs.lemmas.Int.{to_z-of_z}
 use Rattle.lists.proofs.Writes.{written_entry, written-append}
 use Rattle.text.specs.Text.{decimal, minus, signed_decimal}
+use Rattle.text.proofs.DecimalLaws.{smaller_fits}
 use Rattle.text.proofs.SignedDecimal.{signed_below, signed_above}
 use Rattle.text.proofs.signed_decimal.Goals as goal
 
@@ -10,7 +11,8 @@ bounds-out-at c = omega (arith, ap length (signed_below c.args.value (to_z-of_z 
 
 pub decimal-requires : goal.decimal-requires
 decimal-requires c =
-    omega (arith, ap length (signed_below c.args.value (to_z-of_z w64 _ c.ranges.value) c.is_negative.ensures c.unsigned_abs.ensures.value c.if-is_negative.true), length-set c.args.out.now c.args.at minus)
+    smaller_fits _ c.unsigned_abs.result (omega arith)
+    (omega (arith, ap length (signed_below c.args.value (to_z-of_z w64 _ c.ranges.value) c.is_negative.ensures c.unsigned_abs.ensures.value c.if-is_negative.true), length-set c.args.out.now c.args.at minus))
 
 -- The magnitude is written behind the sign.
 pub returns-then-is_negative : goal.returns-then-is_negative
