@@ -1,7 +1,7 @@
 // The records of a network file, in order: how many neighbours they give each bus, how many different pairs they name, and the rows that they make.
 #![tactic(auto)]
 
-ghost use Rattle.std.specs.Prelude.{[], true, false, ◌≡◌, ◌+◌, ◌≤◌, ◌<◌, length};
+ghost use Rattle.std.specs.Prelude.{[], true, false, ◌≡◌, ◌+◌, ◌*◌, ◌≤◌, ◌<◌, length};
 ghost use Rattle.lists.specs.Lists.{put};
 ghost use Rattle.lists.specs.Below.{join_below};
 ghost use Rattle.table_spec.specs.Limits.{max_buses, max_lines};
@@ -10,16 +10,17 @@ ghost use Rattle.row_builder.specs.GrowingRows.{AllZero, GrowingRows};
 ghost use Rattle.file_spec.specs.Sections.{sound_ends};
 ghost use Rattle.file_spec.specs.RecordOrder.{out_of_order};
 ghost use Rattle.file_spec.specs.Records.{neighbours, pair_count};
+ghost use Rattle.file_spec.specs.OrderedRecords.{OrderedRecords};
 ghost use Rattle.file_records.specs.RecordSteps.{equals_last, NeighbourCounts};
 
-use file_sections::Records;
+use file_sections::RecordList;
 use network::Network;
 use row_builder::{append, increment, store_starts};
 
 // Records of so many buses that are sound and in order.
 #[derive(Clone, Copy)]
 pub struct SortedRecords<'a> {
-    pub records: Records<'a>,
+    pub records: RecordList<'a>,
     pub buses: usize,
     pub ghost few: { (buses ≤ max_buses) × (records.count ≤ max_lines) },
     pub ghost sound: { sound_ends buses records.count records.bytes.now ≡ true },
@@ -77,4 +78,45 @@ impl SortedRecords<'_> {
         let end = first + numbers;
         self.fill_rows(counts, &mut table[first..end]);
     }
+}
+
+// Of m records of n buses, for callers who have made no `SortedRecords` of them.
+
+// Counts the neighbours that they give each bus. Gives how many different pairs they name.
+pub fn count_neighbours(
+    section: &[u8],
+    n: usize,
+    m: usize,
+    counts: &mut [u16; Network::BUSES],
+) -> usize
+    requires { (4 * m ≤ length section.now) × OrderedRecords n m section.now × AllZero counts.old }
+    ensures { (result ≡ pair_count m section.now) × NeighbourCounts n m section.now counts.new }
+{
+    let records = RecordList {
+        bytes: section,
+        count: m,
+    };
+    let sorted = SortedRecords { records, buses: n };
+    sorted.count_neighbours(counts)
+}
+
+// Writes the row starts and the rows that they give the buses, whose neighbours were counted, into the table from place `from` on.
+pub fn store_rows(
+    section: &[u8],
+    n: usize,
+    m: usize,
+    counts: &mut [u16; Network::BUSES],
+    table: &mut [u16],
+    from: usize,
+)
+    requires m_in_bounds { (4 * m ≤ length section.now) × OrderedRecords n m section.now × NeighbourCounts n m section.now counts.old }
+    requires section_in_bounds { from + length (laid n (neighbours n m section.now)) ≤ length table.old }
+    ensures { table.new ≡ put table.old from (laid n (neighbours n m section.now)) }
+{
+    let records = RecordList {
+        bytes: section,
+        count: m,
+    };
+    let sorted = SortedRecords { records, buses: n };
+    sorted.store_rows(counts, table, from);
 }

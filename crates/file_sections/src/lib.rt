@@ -157,13 +157,13 @@ impl<'a> CountedFile<'a> {
     }
 
     // Its records.
-    pub fn records(&self) -> Records<'a>
+    pub fn records(&self) -> RecordList<'a>
         requires { SoundSections self.now.file.now }
         ensures { (result.bytes.now ≡ records self.now.file.now) × (result.count ≡ file_line_count self.now.file.now) }
     {
         let from = 2 + self.buses + 2;
         let end = from + 4 * self.lines;
-        Records {
+        RecordList {
             bytes: &self.file[from..end],
             count: self.lines,
         }
@@ -181,6 +181,60 @@ impl<'a> CountedFile<'a> {
         let from = end + 2;
         &self.file[from..from + 2 * self.buses]
     }
+}
+
+// Of a file of n buses and m records, for callers who have made no `CountedFile` of it.
+
+// Where the records end, if they are complete.
+pub fn records_end(file: &[u8], n: usize, m: usize) -> Result<usize, Refusal>
+    requires { (n ≡ file_bus_count file.now) × (n ≤ max_buses) × (m ≡ file_line_count file.now) × (m ≤ max_lines) }
+    ensures { outcome_of result ≡ outcome (missing_causes file.now) (records_end file.now) }
+{
+    let counted = CountedFile {
+        file,
+        buses: n,
+        lines: m,
+    };
+    counted.records_end()
+}
+
+// Judges what follows the records, which end at place `from`: nothing, or a section of weights.
+pub fn judge_weights(file: &[u8], n: usize, m: usize, from: usize) -> Result<Counts, Refusal>
+    requires { (n ≡ file_bus_count file.now) × (n ≤ max_buses) × (m ≡ file_line_count file.now) × (m ≤ max_lines) × (from ≡ records_end file.now) }
+    ensures { outcome_of result ≡ outcome (end_causes file.now) (counts file.now) }
+{
+    let counted = CountedFile {
+        file,
+        buses: n,
+        lines: m,
+    };
+    counted.judge_weights(from)
+}
+
+// The bytes of the records.
+pub fn records(file: &[u8], n: usize, m: usize) -> &[u8]
+    requires { (n ≡ file_bus_count file.now) × (m ≡ file_line_count file.now) × SoundSections file.now }
+    ensures { result.now ≡ records file.now }
+{
+    let counted = CountedFile {
+        file,
+        buses: n,
+        lines: m,
+    };
+    counted.records().bytes
+}
+
+// The bytes of the weights; none if the file ends behind the records.
+pub fn weight_bytes(file: &[u8], n: usize, m: usize) -> &[u8]
+    requires { (n ≡ file_bus_count file.now) × (m ≡ file_line_count file.now) × SoundSections file.now }
+    ensures { result.now ≡ weight_bytes file.now }
+{
+    let counted = CountedFile {
+        file,
+        buses: n,
+        lines: m,
+    };
+    counted.weight_bytes()
 }
 
 // Judges all of a file but what its records say. Gives its two counts; that of lines is how many records there are.
@@ -210,13 +264,13 @@ pub struct Ends {
 
 // Records: how many, and their bytes, four for each.
 #[derive(Clone, Copy)]
-pub struct Records<'a> {
+pub struct RecordList<'a> {
     pub bytes: &'a [u8],
     pub count: usize,
     pub ghost complete: { 4 * count ≤ length bytes.now },
 }
 
-impl Records<'_> {
+impl RecordList<'_> {
     // Record k.
     pub fn ends(&self, k: usize) -> Ends
         requires { k < self.now.count }
@@ -275,4 +329,42 @@ impl Records<'_> {
         }
         false
     }
+}
+
+// Of a section of m records, for callers who have made no `RecordList` of it.
+
+// Record k.
+pub fn ends_of(section: &[u8], k: usize) -> Ends
+    requires { 4 * k + 3 < length section.now }
+    ensures { (result.first ≡ first_end section.now k) × (result.second ≡ second_end section.now k) }
+{
+    let records = RecordList {
+        bytes: section,
+        count: k + 1,
+    };
+    records.ends(k)
+}
+
+// Whether each of m records names two different buses below n.
+pub fn sound_ends(section: &[u8], n: usize, m: usize) -> bool
+    requires { 4 * m ≤ length section.now }
+    ensures { result ≡ sound_ends n m section.now }
+{
+    let records = RecordList {
+        bytes: section,
+        count: m,
+    };
+    records.sound_ends(n)
+}
+
+// Whether one of m records is out of order.
+pub fn out_of_order(section: &[u8], m: usize) -> bool
+    requires { 4 * m ≤ length section.now }
+    ensures { result ≡ out_of_order m section.now }
+{
+    let records = RecordList {
+        bytes: section,
+        count: m,
+    };
+    records.out_of_order()
 }

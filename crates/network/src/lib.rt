@@ -46,21 +46,10 @@ pub struct Limits {
     pub bytes: usize,
 }
 
-// A network: a line table whose lines run both ways, and whose needs can be met.
-#[derive(Drop)]
-pub struct Network<'a> {
-    table: Table<'a>,
-}
+#[derive(Clone, Copy)]
+pub struct Network;
 
-impl<'a> Model for Network<'a> {
-    ghost Value = { List ℕ };
-
-    ghost view = { λ n. n.table };
-
-    ghost invariant = { λ n. Holds n.table };
-}
-
-impl<'a> Network<'a> {
+impl Network {
     // Buses of a network.
     pub const BUSES: usize = 512;
 
@@ -82,12 +71,43 @@ impl<'a> Network<'a> {
     // Bytes of a network file.
     pub const BYTES: usize = 2 + Network::BUSES + 2 + 4 * Network::LINES + 2 + 2 * Network::BUSES;
 
+    pub fn limits() -> Limits
+        ensures buses_value { (result.buses ≡ max_buses) × (result.degree ≡ max_degree) × (result.need ≡ max_need) × (result.weight ≡ max_weight) }
+        ensures lines_value { (result.lines ≡ max_lines) × (result.entries ≡ max_entries) × (result.bytes ≡ max_bytes) }
+    {
+        Limits {
+            buses: Network::BUSES,
+            degree: Network::LINES_AT_BUS,
+            need: Network::NEED,
+            weight: Network::WEIGHT,
+            lines: Network::LINES,
+            entries: Network::ENTRIES,
+            bytes: Network::BYTES,
+        }
+    }
+}
+
+// The network that a slice holds: a line table whose lines run both ways, and whose needs can be met.
+#[derive(Drop)]
+pub struct HeldNetwork<'a> {
+    table: Table<'a>,
+}
+
+impl<'a> Model for HeldNetwork<'a> {
+    ghost Value = { List ℕ };
+
+    ghost view = { λ n. n.table };
+
+    ghost invariant = { λ n. Holds n.table };
+}
+
+impl<'a> HeldNetwork<'a> {
     // The network that a slice holds.
-    pub fn new(slice: &'a [u16]) -> Network<'a>
+    pub fn new(slice: &'a [u16]) -> HeldNetwork<'a>
         requires { Holds slice.now }
         ensures { result ≡ slice.now }
     {
-        Network {
+        HeldNetwork {
             table: Table::new(slice),
         }
     }
@@ -107,20 +127,5 @@ impl<'a> Network<'a> {
         ensures network { Holds self.now }
     {
         self.table.numbers().len() / 2
-    }
-
-    pub fn limits() -> Limits
-        ensures buses_value { (result.buses ≡ max_buses) × (result.degree ≡ max_degree) × (result.need ≡ max_need) × (result.weight ≡ max_weight) }
-        ensures lines_value { (result.lines ≡ max_lines) × (result.entries ≡ max_entries) × (result.bytes ≡ max_bytes) }
-    {
-        Limits {
-            buses: Network::BUSES,
-            degree: Network::LINES_AT_BUS,
-            need: Network::NEED,
-            weight: Network::WEIGHT,
-            lines: Network::LINES,
-            entries: Network::ENTRIES,
-            bytes: Network::BYTES,
-        }
     }
 }

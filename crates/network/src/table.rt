@@ -4,6 +4,7 @@ ghost use Rattle.table_spec.specs.Limits.{max_buses, max_weight, max_lines};
 ghost use Rattle.table_spec.specs.Layout.{bus_count, needs, weights_from, starts_from, weights, need, weight, starts, neighbour_numbers, starts_at, row, row_start, lines, table_entries};
 ghost use Rattle.table_spec.specs.Holds.{Complete, Scorable, Holds};
 
+use super::HeldNetwork;
 use super::rows::{entry, row_at};
 use std::marker::Model;
 
@@ -189,4 +190,51 @@ impl<'a> Table<'a> {
         let first = starts_at(self.slice) + self.starts.len();
         first + entry(self.starts, bus)
     }
+}
+
+// Of a slice, for callers who know what it holds and have made no `Table` or `HeldNetwork` of it.
+
+// The neighbours of a bus.
+pub fn neighbours(table: &[u16], bus: usize) -> &[u16]
+    requires { Scorable table.now × (bus < bus_count table.now) }
+    ensures { result.now ≡ row table.now bus }
+{
+    let table = Table::new(table);
+    table.neighbours(bus)
+}
+
+// The need of a bus.
+pub fn need(table: &[u16], bus: usize) -> usize
+    requires { Scorable table.now × (bus < bus_count table.now) }
+    ensures { result ≡ need table.now bus }
+{
+    let table = Table::new(table);
+    table.need(bus)
+}
+
+// The weight of a bus.
+pub fn weight(table: &[u16], bus: usize) -> u64
+    requires { Scorable table.now × (bus < bus_count table.now) }
+    ensures { (result ≡ weight table.now bus) × (result ≤ max_weight) }
+{
+    let table = Table::new(table);
+    table.weight(bus)
+}
+
+// Where the neighbours of a bus begin in the table.
+pub fn row_start(table: &[u16], bus: usize) -> usize
+    requires { Scorable table.now × (bus < bus_count table.now) }
+    ensures { result ≡ row_start table.now bus }
+{
+    let table = Table::new(table);
+    table.row_start(bus)
+}
+
+// How many lines: half as many as neighbour numbers.
+pub fn lines(table: &[u16]) -> usize
+    requires { Holds table.now }
+    ensures { result ≡ lines table.now }
+{
+    let network = HeldNetwork::new(table);
+    network.lines()
 }

@@ -4,11 +4,7 @@ use mathlib.Core.Logic.{⊎_elim}
 use mathlib.Core.Path.{◌≡◌, ap, ◌∙◌}
 use Prim.Native.Nat.{ℕ, ◌+◌, ◌≤◌, ◌<◌}
 use native.Mathlib.Omega.{arith}
-use borrow.Author.Tests.{ne_eqb, eq-eqb, leb-true, leb-false}
-use mathlib.Core.Bool.{true, false}
-use lib.Dec.{leb}
-use Rattle.std.specs.List.Sorted.{IsPartitionPoint, IsPartitionedBy}
-use Rattle.std.proofs.lemmas.List.Sorted.{IsPartitionedBy-leb, IsNonDecreasingBy-from_default}
+use borrow.Author.Tests.{ne_eqb, eq-eqb}
 use lib.ListN.{length, set, take, length-append}
 use lib.Seq.{length-take-le}
 use Rattle.lists.specs.Lists.{without, at, Ascending, WrittenAt}
@@ -18,20 +14,44 @@ use Rattle.lists.proofs.Without.{without-append, length-without-le}
 use Rattle.lists.proofs.Writes.{stored_entry}
 use Rattle.outage.specs.StudyWork.{Above}
 
--- ---- the search
+-- ---- the search: buses before place `low` are not above the bus, and those from place `high` on are
 
--- a row that ascends is parted at each bus
-pub parted : (r : List ℕ) (bus : ℕ) → Ascending r → IsPartitionedBy (λ x. leb x bus) r
-unfolding at
-parted r bus up =
-    IsPartitionedBy-leb (λ x. x) r bus
-    (IsNonDecreasingBy-from_default (λ x. x) r 0 λ i j h l. ⊎_elim (λ e. omega (arith, ap (at r) e)) (λ b. omega (arith, up i j b l)) (last_or {i = i} {n = j} (omega arith)))
+pub record Between (r : List ℕ) (bus low high : ℕ) : Type 0 where
+  pub ordered : low ≤ high
+  pub inside : high ≤ length r
+  pub before : (i : ℕ) → i < low → at r i ≤ bus
+  pub behind : (i : ℕ) → high ≤ i → i < length r → bus < at r i
 
-pub above_by : {r : List ℕ} {bus k : ℕ} → k ≤ length r → IsPartitionPoint (λ x. leb x bus ≡ true) (λ x. leb x bus ≡ false) r k → Above r bus k
-unfolding at
-above_by h p = record { inside = h; before = λ i b. leb-true _ _ (p.0 i 0 (omega arith) b); behind = λ i b c. leb-false _ _ (p.1 i 0 b c) }
+pub search_start : (r : List ℕ) (bus : ℕ) {n : ℕ} → n ≡ length r → Between r bus 0 n
+search_start r bus e = record {
+  ordered = omega arith;
+  inside = omega arith;
+  before = λ i b. absurd (omega arith);
+  behind = λ i b c. absurd (omega arith);
+}
 
--- ---- leaving one out: of the first k buses of r those that are not `bus` were copied to the front of t, which left u; x is the next
+-- x is the bus in the middle
+module _ {r : List ℕ} (up : Ascending r) {bus low high middle x : ℕ} (w : Between r bus low high) (l : low ≤ middle) (m : middle < high) (e : x ≡ at r middle) where
+  pub search_up : x ≤ bus → Between r bus (middle + 1) high
+  search_up h = record {
+    ordered = omega arith;
+    inside = w.inside;
+    before = λ i b. ⊎_elim (λ q. omega (arith, ap (at r) q)) (λ c. omega (arith, up i middle c (omega (arith, w.inside)))) (last_or {i = i} {n = middle} (omega arith));
+    behind = w.behind;
+  }
+
+  pub search_down : bus < x → Between r bus low middle
+  search_down h = record {
+    ordered = l;
+    inside = omega (arith, w.inside);
+    before = w.before;
+    behind = λ i b c. ⊎_elim (λ q. omega (arith, ap (at r) q)) (λ d. omega (arith, up middle i d c)) (last_or {i = middle} {n = i} (omega arith));
+  }
+
+pub search_end : {r : List ℕ} {bus low high : ℕ} → Between r bus low high → high ≤ low → Above r bus low
+search_end w h = record { inside = omega (arith, w.ordered, w.inside); before = w.before; behind = λ i b c. w.behind i (omega arith) c }
+
+-- ---- leaving one out: of the first k buses of r those that are not `bus` were copied to the front of t, which left u
 
 module _ (r : List ℕ) (bus k : ℕ) (t : List ℕ) {many : ℕ} {u : List ℕ} (w : WrittenAt (without (bus ∷ []) (take k r)) 0 t many u) where
   module _ (b : k < length r) where

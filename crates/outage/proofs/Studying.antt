@@ -22,12 +22,12 @@ use Rattle.outage_spec.proofs.EndTerms.{change_by_ends, ends_with_le, ends_witho
 use Rattle.outage_spec.proofs.StudyDue.{line_named}
 use Rattle.outage.specs.StudyWork.{Room}
 
--- sums of zero, with x more
+-- sums of zero have room
 pub zeros_room : (n : ℕ) {L : ℕ} → L ≤ max_denominator → Room (max_weight * L) (replicate n 0)
 zeros_room n h v = omega (arith, at-zeros n v)
 
 -- both ends have added their terms to zeros
-both_added : (n : ℕ) {f g : ℕ → ℕ} {x y : List ℕ} → Added f (replicate n 0) x → Added g x y → (v : ℕ) → at y v ≡ f v + g v
+pub both_added : (n : ℕ) {f g : ℕ → ℕ} {x y : List ℕ} → Added f (replicate n 0) x → Added g x y → (v : ℕ) → at y v ≡ f v + g v
 both_added n first second v = omega (arith, first.each v, second.each v, at-zeros n v)
 
 -- line k was found to join a with b, and L makes the terms whole with it and without it

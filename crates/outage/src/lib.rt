@@ -7,6 +7,7 @@ ghost use Rattle.signed.specs.Signed.{difference, signed_below};
 ghost use Rattle.refusals.specs.Outcomes.{outcome_of};
 ghost use Rattle.table_spec.specs.Limits.{max_weight};
 ghost use Rattle.table_spec.specs.Layout.{bus_count, row, need, weight, lines};
+ghost use Rattle.table_spec.specs.Holds.{Holds};
 ghost use Rattle.table_spec.specs.Lines.{lower_end, upper_end};
 ghost use Rattle.share_spec.specs.TableNetwork.{Over};
 ghost use Rattle.share_spec.specs.TermsGiven.{terms_from};
@@ -17,10 +18,10 @@ ghost use Rattle.outage_spec.specs.Outage.{without_line, change_over};
 ghost use Rattle.outage_spec.specs.StudyOutcome.{study_outcome, changes_after, AllStudied};
 ghost use Rattle.outage.specs.StudyWork.{Above, Room};
 
-use network::Network;
 pub use network::Refusal;
 use network::rows::entry;
-pub use share_terms::denominator;
+use network::{HeldNetwork, Network};
+pub use share_terms::{denominator, denominator_of};
 use share_terms::{add_terms, unit};
 use signed::less;
 use table_check::network;
@@ -32,16 +33,27 @@ struct Ends {
     upper: usize,
 }
 
-// Where the buses above this one begin in a row. A row ascends, so they are searched by halves.
+// Where the buses above this one begin in a row. A row ascends, so they are searched by halves, with five looks at most: std's `partition_point` takes six
+// where a row has more than 16 buses (docs/DECISIONS.md).
 fn first_above(row: &[u16], bus: usize) -> usize
     requires { Ascending row.now }
     ensures { Above row.now bus result }
 {
-    row.partition_point(|&neighbour| neighbour as usize <= bus)
+    let mut low = 0;
+    let mut high = row.len();
+    while low < high {
+        let middle = low + (high - low) / 2;
+        if entry(row, middle) <= bus {
+            low = middle + 1;
+        } else {
+            high = middle;
+        }
+    }
+    low
 }
 
 // The ends of a line. Lines are counted at their lower ends: a bus has as many there as its row has buses above it.
-fn ends_of(network: &Network, line: usize) -> Ends
+fn ends_of(network: &HeldNetwork, line: usize) -> Ends
     requires { line < lines network.now }
     ensures { (result.lower ≡ lower_end network.now line) × (result.upper ≡ upper_end network.now line) }
 {
@@ -80,7 +92,7 @@ fn leave_out(row: &[u16], bus: usize, left: &mut [u16]) -> usize
 
 // Adds the terms of one end of a line: those with the line to the sums before its loss, those without it to the sums after it.
 fn add_end(
-    network: &Network,
+    network: &HeldNetwork,
     over: u64,
     end: usize,
     other: usize,
@@ -125,7 +137,7 @@ fn store(before: &[u64], after: &[u64], n: usize, changes: &mut [i64])
 
 // Stores the changes of all buses when a line goes out, over any L that makes their terms whole with the line and without it. Of all terms only those of
 // the line's ends move. For callers who study many lines of a network: neither the table nor its L is looked at again.
-pub fn study_over(network: &Network, line: usize, over: u64, changes: &mut [i64])
+pub fn study_network_over(network: &HeldNetwork, line: usize, over: u64, changes: &mut [i64])
     requires line { (line < lines network.now) × (bus_count network.now ≤ length changes.old) }
     requires whole { Over network.now over × Over (without_line network.now line) over }
     ensures { changes.new ≡ signed_below (bus_count network.now) (change_over (network_of network.now) (network_of (without_line network.now line)) over) ++ drop (bus_count network.now) changes.old }
@@ -139,8 +151,21 @@ pub fn study_over(network: &Network, line: usize, over: u64, changes: &mut [i64]
     store(&before, &after, table.buses(), changes);
 }
 
+// The same, of a slice that holds a network.
+pub fn study_over(table: &[u16], line: usize, over: u64, changes: &mut [i64])
+    requires holds { Holds table.now × (line < lines table.now) × (bus_count table.now ≤ length changes.old) }
+    requires whole { Over table.now over × Over (without_line table.now line) over }
+    ensures { changes.new ≡ signed_below (bus_count table.now) (change_over (network_of table.now) (network_of (without_line table.now line)) over) ++ drop (bus_count table.now) changes.old }
+{
+    study_network_over(&HeldNetwork::new(table), line, over, changes);
+}
+
 // The study of a network.
-pub fn study(network: &Network, line: usize, changes: &mut [i64]) -> Result<u64, Refusal>
+pub fn study_network(
+    network: &HeldNetwork,
+    line: usize,
+    changes: &mut [i64],
+) -> Result<u64, Refusal>
     ensures answer { outcome_of result ≡ study_outcome network.now line (length changes.old) }
     ensures stored { changes.new ≡ changes_after network.now line changes.old }
 {
@@ -151,9 +176,18 @@ pub fn study(network: &Network, line: usize, changes: &mut [i64]) -> Result<u64,
     if changes.len() < table.buses() {
         return Err(Refusal::NumeratorsTooShort);
     }
-    let over = denominator(table);
-    study_over(network, line, over, changes);
+    let over = denominator_of(table);
+    study_network_over(network, line, over, changes);
     Ok(over)
+}
+
+// The same, of a slice that holds a network.
+pub fn study(table: &[u16], line: usize, changes: &mut [i64]) -> Result<u64, Refusal>
+    requires { Holds table.now }
+    ensures answer { outcome_of result ≡ study_outcome table.now line (length changes.old) }
+    ensures stored { changes.new ≡ changes_after table.now line changes.old }
+{
+    study_network(&HeldNetwork::new(table), line, changes)
 }
 
 // The changes of all buses when a line goes out: they are stored, and what they are over is given.
@@ -162,5 +196,5 @@ pub fn changes(table: &[u16], line: usize, changes: &mut [i64]) -> Result<u64, R
     ensures stored { changes.new ≡ changes_after table.now line changes.old }
     ensures fair { AllStudied table.now line (length changes.old) (outcome_of result) changes.new }
 {
-    study(&network(table)?, line, changes)
+    study_network(&network(table)?, line, changes)
 }

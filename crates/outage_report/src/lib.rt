@@ -8,8 +8,8 @@ ghost use Rattle.outage_report.specs.OutageReport.{line_of, lines_of, studied, p
 ghost use Rattle.outage_report.specs.ChangeRoom.{Small, longest_changes};
 
 use file_sections::word;
-use network::Network;
-use outage::study;
+use network::{HeldNetwork, Network};
+use outage::study_network;
 use reader::{Refusal, read};
 use refused_line::write_refusal;
 use text::{fill_template, signed_decimal};
@@ -45,14 +45,14 @@ fn write_changes(changes: &[i64], out: &mut [u8]) -> usize
 }
 
 // Writes the changes of all buses of a network when a line goes out, or why the line is refused.
-fn write_study(network: &Network, line: usize, out: &mut [u8]) -> usize
+fn write_study(network: &HeldNetwork, line: usize, out: &mut [u8]) -> usize
     requires { longest_changes ≤ length out.old }
     ensures written_at { WrittenAt (studied network.now line) 0 out.old result out.new }
     ensures upper_bound { result ≤ longest_changes }
 {
     let n = network.table().buses();
     let mut changes = [0i64; Network::BUSES];
-    match study(network, line, &mut changes) {
+    match study_network(network, line, &mut changes) {
         Ok(_) => write_changes(&changes[..n], out),
         Err(cause) => write_refusal(cause, out),
     }
@@ -69,7 +69,7 @@ pub fn report(input: &[u8], out: &mut [u8; LONGEST_CHANGES]) -> usize
     let line = word(input, 0);
     let mut table = [0u16; Network::ENTRIES];
     match read(&input[2..], &mut table) {
-        Ok(_) => write_study(&Network::new(&table), line, out),
+        Ok(_) => write_study(&HeldNetwork::new(&table), line, out),
         Err(cause) => write_refusal(cause, out),
     }
 }

@@ -16,7 +16,7 @@ ghost use Rattle.read_spec.specs.ReadStages.{records_table, LinesDue, RecordsDue
 
 use file_records::SortedRecords;
 pub use file_sections::Counts;
-use file_sections::{CountedFile, Records, judge, need_bytes, weight_in};
+use file_sections::{CountedFile, RecordList, judge, need_bytes, weight_in};
 use network::Network;
 pub use network::Refusal;
 use network::table::{entries, starts_from, weights_from};
@@ -91,7 +91,7 @@ impl Sections<'_> {
 fn read_records<'a>(
     needs: &'a [u8],
     weights: &'a [u8],
-    records: &Records<'a>,
+    records: &RecordList<'a>,
     table: &mut [u16],
 ) -> Result<Counts, Refusal>
     requires { (length needs.now ≤ max_buses) × CompleteWeights (length needs.now) weights.now × (records.now.count ≤ max_lines) }
@@ -116,18 +116,22 @@ fn read_records<'a>(
     sections.read_lines(table)
 }
 
-// Reads a file into a lent slice.
+// Reads a file into a lent slice. No `?` on the sections' answer: the cause stands here, so that a wrong one can be planted in its place.
 pub fn read(file: &[u8], table: &mut [u16]) -> Result<Counts, Refusal>
     ensures answer { outcome_of result ≡ read_outcome file.now (length table.old) }
     ensures stored { table.new ≡ table_after file.now table.old }
     ensures recorded { Recorded file.now table.old (outcome_of result) table.new }
 {
-    let counts = judge(file)?;
-    let counted = CountedFile {
-        file,
-        buses: counts.buses,
-        lines: counts.lines,
-    };
-    let needs = need_bytes(file, counts.buses);
-    read_records(needs, counted.weight_bytes(), &counted.records(), table)
+    match judge(file) {
+        Ok(counts) => {
+            let counted = CountedFile {
+                file,
+                buses: counts.buses,
+                lines: counts.lines,
+            };
+            let needs = need_bytes(file, counts.buses);
+            read_records(needs, counted.weight_bytes(), &counted.records(), table)
+        }
+        Err(cause) => Err(cause),
+    }
 }

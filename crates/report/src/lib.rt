@@ -5,11 +5,11 @@ ghost use Rattle.std.specs.Prelude.{◌≡◌, ◌≤◌, length};
 ghost use Rattle.lists.specs.Lists.{put};
 ghost use Rattle.report.specs.Report.{printed};
 
-use network::Network;
+use network::{HeldNetwork, Network};
 use reader::read;
 use refused_line::write_refusal;
 pub use whole_sheet::LONGEST_SHEET;
-use whole_sheet::write_sheet;
+use whole_sheet::write_network;
 
 // Writes what the program prints for a file at the front of a buffer, and gives its byte count.
 pub fn report(file: &[u8], out: &mut [u8; LONGEST_SHEET]) -> usize
@@ -18,7 +18,7 @@ pub fn report(file: &[u8], out: &mut [u8; LONGEST_SHEET]) -> usize
 {
     let mut table = [0u16; Network::ENTRIES];
     match read(file, &mut table) {
-        Ok(_) => write_sheet(&Network::new(&table), out),
+        Ok(_) => write_network(&HeldNetwork::new(&table), out),
         Err(cause) => write_refusal(cause, out),
     }
 }

@@ -7,6 +7,7 @@ ghost use Rattle.lists.specs.Below.{map_below, range};
 ghost use Rattle.refusals.specs.Outcomes.{outcome_of};
 ghost use Rattle.table_spec.specs.Limits.{max_weight};
 ghost use Rattle.table_spec.specs.Layout.{bus_count, need, degree};
+ghost use Rattle.table_spec.specs.Holds.{Scorable, Holds};
 ghost use Rattle.game.specs.Game.{neighbour_term, numerator as formula};
 ghost use Rattle.share_spec.specs.Network.{denominator};
 ghost use Rattle.share_spec.specs.TableNetwork.{game_of, Over};
@@ -19,10 +20,10 @@ ghost use Rattle.share_spec.specs.ShareOutcomes.{shares_outcome, numerators_afte
 ghost use Rattle.scorer.specs.ShareAnswers.{outcome_of_share};
 ghost use Rattle.scorer.specs.ScorerWork.{degrees, Room};
 
-use network::Network;
 pub use network::Refusal;
 use network::table::Table;
-pub use share_terms::denominator;
+use network::{HeldNetwork, Network};
+pub use share_terms::{denominator, denominator_of};
 use share_terms::{add_terms, clear, term, unit};
 use std::array;
 use table_check::network;
@@ -57,7 +58,7 @@ fn add_bus(table: &Table, over: u64, units: &[u64; DEGREES], bus: usize, numerat
 }
 
 // Stores the numerators of all buses, whichever way the table's lines run, over any L that makes their terms whole.
-pub fn score_over(table: &Table, over: u64, numerators: &mut [u64])
+pub fn score_table_over(table: &Table, over: u64, numerators: &mut [u64])
     requires { (bus_count table.now ≤ length numerators.old) × Over table.now over }
     ensures { numerators.new ≡ put numerators.old 0 (map_below (bus_count table.now) (λ v. formula (game_of table.now) (range (bus_count table.now)) v over)) }
 {
@@ -69,16 +70,33 @@ pub fn score_over(table: &Table, over: u64, numerators: &mut [u64])
     }
 }
 
+// The same, of a slice that can be scored.
+pub fn score_over(table: &[u16], over: u64, numerators: &mut [u64])
+    requires { Scorable table.now × (bus_count table.now ≤ length numerators.old) × Over table.now over }
+    ensures { numerators.new ≡ put numerators.old 0 (map_below (bus_count table.now) (λ v. formula (game_of table.now) (range (bus_count table.now)) v over)) }
+{
+    score_table_over(&Table::new(table), over, numerators);
+}
+
 // Stores the numerators of all buses of a network over its own L, which it gives.
-pub fn score(network: &Network, numerators: &mut [u64]) -> u64
+pub fn score_network(network: &HeldNetwork, numerators: &mut [u64]) -> u64
     requires { bus_count network.now ≤ length numerators.old }
     ensures value { result ≡ denominator (network_of network.now) }
     ensures numerators_after { numerators.new ≡ put numerators.old 0 (map_below (bus_count network.now) (numerator_over (network_of network.now) (denominator (network_of network.now)))) }
 {
     let table = network.table();
-    let over = denominator(table);
-    score_over(table, over, numerators);
+    let over = denominator_of(table);
+    score_table_over(table, over, numerators);
     over
+}
+
+// The same, of a slice that holds a network.
+pub fn score(table: &[u16], numerators: &mut [u64]) -> u64
+    requires { Holds table.now × (bus_count table.now ≤ length numerators.old) }
+    ensures value { result ≡ denominator (network_of table.now) }
+    ensures numerators_after { numerators.new ≡ put numerators.old 0 (map_below (bus_count table.now) (numerator_over (network_of table.now) (denominator (network_of table.now)))) }
+{
+    score_network(&HeldNetwork::new(table), numerators)
 }
 
 // What a bus of weight 1 would give to each neighbour.
@@ -105,16 +123,24 @@ fn numerator(table: &Table, over: u64, bus: usize) -> u64
 }
 
 // The numerator of one bus over the network's own L, and that L.
-pub fn share_of(network: &Network, bus: usize) -> BusShare
+pub fn share_in(network: &HeldNetwork, bus: usize) -> BusShare
     requires { bus < bus_count network.now }
     ensures { (result.numerator ≡ numerator (network_of network.now) bus) × (result.over ≡ denominator (network_of network.now)) }
 {
     let table = network.table();
-    let over = denominator(table);
+    let over = denominator_of(table);
     BusShare {
         numerator: numerator(table, over, bus),
         over,
     }
+}
+
+// The same, of a slice that holds a network.
+pub fn share_of(table: &[u16], bus: usize) -> BusShare
+    requires { Holds table.now × (bus < bus_count table.now) }
+    ensures { (result.numerator ≡ numerator (network_of table.now) bus) × (result.over ≡ denominator (network_of table.now)) }
+{
+    share_in(&HeldNetwork::new(table), bus)
 }
 
 // The shares of all buses: the numerators are stored, and what they are over is given.
@@ -127,7 +153,7 @@ pub fn shares(table: &[u16], numerators: &mut [u64]) -> Result<u64, Refusal>
     if numerators.len() < network.table().buses() {
         return Err(Refusal::NumeratorsTooShort);
     }
-    Ok(score(&network, numerators))
+    Ok(score_network(&network, numerators))
 }
 
 // The share of one bus: its numerator, and what it is over.
@@ -139,5 +165,5 @@ pub fn share(table: &[u16], bus: usize) -> Result<BusShare, Refusal>
     if network.table().buses() <= bus {
         return Err(Refusal::NoSuchBus);
     }
-    Ok(share_of(&network, bus))
+    Ok(share_in(&network, bus))
 }

@@ -6,6 +6,7 @@ ghost use Rattle.lists.specs.Lists.{count, ◌∈◌, at, put};
 ghost use Rattle.lists.specs.Below.{map_below};
 ghost use Rattle.fraction.specs.Divisors.{lcm_all};
 ghost use Rattle.table_spec.specs.Limits.{max_degree, max_weight};
+ghost use Rattle.table_spec.specs.Holds.{Scorable};
 ghost use Rattle.game.specs.Game.{neighbour_term};
 ghost use Rattle.share_spec.specs.TableNetwork.{largest_degree, divisors_of, max_denominator};
 ghost use Rattle.share_spec.specs.TermsGiven.{terms_from};
@@ -39,10 +40,18 @@ fn multiple_up_to(m: usize) -> u64
 }
 
 // L: what all shares of a network are over.
-pub fn denominator(table: &Table) -> u64
+pub fn denominator_of(table: &Table) -> u64
     ensures { result ≡ lcm_all (divisors_of table.now) }
 {
     multiple_up_to(1 + largest_degree(table))
+}
+
+// The same, of a slice that can be scored.
+pub fn denominator(table: &[u16]) -> u64
+    requires { Scorable table.now }
+    ensures { result ≡ lcm_all (divisors_of table.now) }
+{
+    denominator_of(&Table::new(table))
 }
 
 // L over d (d + 1), which the terms of a bus of degree d are multiples of. A bus of degree 0 has no neighbour to give to.

@@ -5,6 +5,7 @@ ghost use Rattle.std.specs.Prelude.{◌≡◌, suc, ◌+◌, ◌≤◌, ◌<◌,
 ghost use Rattle.lists.specs.Lists.{WrittenAt};
 ghost use Rattle.refusals.specs.Outcomes.{outcome_of};
 ghost use Rattle.table_spec.specs.Layout.{bus_count};
+ghost use Rattle.table_spec.specs.Holds.{Holds};
 ghost use Rattle.share_spec.specs.Network.{denominator};
 ghost use Rattle.share_spec.specs.Formula.{numerator as numeratorOf};
 ghost use Rattle.two_way.specs.TwoWay.{network_of};
@@ -13,9 +14,9 @@ ghost use Rattle.sheet.specs.LineOutcomes.{text_outcome, text_after, line_outcom
 ghost use Rattle.sheet.specs.LineRoom.{longest_line};
 
 use fraction::reduce;
-use network::Network;
+use network::HeldNetwork;
 pub use network::Refusal;
-use scorer::{denominator, share_of};
+use scorer::{denominator_of, share_in};
 use table_check::network;
 use text::fill_template;
 
@@ -23,7 +24,7 @@ use text::fill_template;
 pub const LONGEST_LINE: usize = 55;
 
 // Writes the heading, and gives the place behind it.
-pub fn write_heading(network: &Network, over: u64, out: &mut [u8], at: usize) -> usize
+pub fn write_network_heading(network: &HeldNetwork, over: u64, out: &mut [u8], at: usize) -> usize
     requires { (over ≡ denominator (network_of network.now)) × (at + longest_line ≤ length out.old) }
     ensures written_at { WrittenAt (sheet_line (network_of network.now) 0) at out.old result out.new }
     ensures upper_bound { result ≤ at + longest_line }
@@ -34,9 +35,18 @@ pub fn write_heading(network: &Network, over: u64, out: &mut [u8], at: usize) ->
     fill_template(b"buses # lines # over #\n", &numbers, out, at)
 }
 
+// The same, of a slice that holds a network.
+pub fn write_heading(table: &[u16], over: u64, out: &mut [u8], at: usize) -> usize
+    requires { Holds table.now × (over ≡ denominator (network_of table.now)) × (at + longest_line ≤ length out.old) }
+    ensures written_at { WrittenAt (sheet_line (network_of table.now) 0) at out.old result out.new }
+    ensures upper_bound { result ≤ at + longest_line }
+{
+    write_network_heading(&HeldNetwork::new(table), over, out, at)
+}
+
 // Writes the line of a bus whose numerator is known, and gives the place behind it.
-pub fn write_bus(
-    network: &Network,
+pub fn write_network_bus(
+    network: &HeldNetwork,
     over: u64,
     numerator: u64,
     bus: usize,
@@ -56,18 +66,35 @@ pub fn write_bus(
     fill_template(b"# # # # #/#\n", &numbers, out, at)
 }
 
+// The same, of a slice that holds a network.
+pub fn write_bus(
+    table: &[u16],
+    over: u64,
+    numerator: u64,
+    bus: usize,
+    out: &mut [u8],
+    at: usize,
+) -> usize
+    requires holds { Holds table.now × (bus < bus_count table.now) × (at + longest_line ≤ length out.old) }
+    requires over_value { (over ≡ denominator (network_of table.now)) × (numerator ≡ numeratorOf (network_of table.now) bus) }
+    ensures written_at { WrittenAt (sheet_line (network_of table.now) (suc bus)) at out.old result out.new }
+    ensures upper_bound { result ≤ at + longest_line }
+{
+    write_network_bus(&HeldNetwork::new(table), over, numerator, bus, out, at)
+}
+
 // Writes sheet line i at the front: line 0 is the heading, line i that of bus i - 1.
-fn write_line(network: &Network, i: usize, out: &mut [u8]) -> usize
+fn write_line(network: &HeldNetwork, i: usize, out: &mut [u8]) -> usize
     requires { (i ≤ bus_count network.now) × (longest_line ≤ length out.old) }
     ensures written_at { WrittenAt (sheet_line (network_of network.now) i) 0 out.old result out.new }
     ensures upper_bound { result ≤ longest_line }
 {
     if i == 0 {
-        return write_heading(network, denominator(network.table()), out, 0);
+        return write_network_heading(network, denominator_of(network.table()), out, 0);
     }
     let bus = i - 1;
-    let share = share_of(network, bus);
-    write_bus(network, share.over, share.numerator, bus, out, 0)
+    let share = share_in(network, bus);
+    write_network_bus(network, share.over, share.numerator, bus, out, 0)
 }
 
 // Copies a text to the front of a lent slice, if that is long enough.

@@ -12,7 +12,7 @@ pub mod rows;
 use mirrors::mirrored;
 use network::rows::entry;
 use network::table::{bus_count, needs, neighbour_numbers, starts, starts_at, weights};
-use network::{Network, Refusal, can_be_met, within};
+use network::{HeldNetwork, Network, Refusal, can_be_met, within};
 use rows::sound_rows;
 
 // Whether the slice has all entries of its table, and no more buses than a network may have.
@@ -65,11 +65,11 @@ pub fn holds(table: &[u16]) -> bool
 }
 
 // The network that a slice holds, or that it holds none.
-pub fn network<'a>(slice: &'a [u16]) -> Result<Network<'a>, Refusal>
+pub fn network<'a>(slice: &'a [u16]) -> Result<HeldNetwork<'a>, Refusal>
     ensures { MatchResult result (λ network. (holds slice.now ≡ true) × (network ≡ slice.now)) (λ cause. (holds slice.now ≡ false) × (cause ≡ NoNetwork)) }
 {
     if holds(slice) {
-        Ok(Network::new(slice))
+        Ok(HeldNetwork::new(slice))
     } else {
         Err(Refusal::NoNetwork)
     }

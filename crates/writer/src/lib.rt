@@ -11,7 +11,7 @@ ghost use Rattle.write_spec.specs.WriteOutcome.{write_outcome, bytes_after};
 ghost use Rattle.writer.specs.FileFront.{front_of};
 ghost use Rattle.writer.specs.RowRecords.{record_above, row_records};
 
-use network::Network;
+use network::HeldNetwork;
 pub use network::Refusal;
 use network::table::Table;
 use table_check::network;
@@ -75,7 +75,7 @@ fn write_pairs(table: &Table, out: &mut [u8], at: usize) -> usize
 }
 
 // Writes the file of a network up to its weights at the front of bytes that are enough, and gives the place behind it.
-fn write_front(network: &Network, out: &mut [u8]) -> usize
+fn write_front(network: &HeldNetwork, out: &mut [u8]) -> usize
     requires { length (front_of network.now) ≤ length out.old }
     ensures { WrittenAt (front_of network.now) 0 out.old result out.new }
 {
@@ -118,7 +118,7 @@ fn write_section(weights: &[u16], ones: bool, out: &mut [u8], at: usize) -> usiz
 }
 
 // How many bytes the file of a network has; `ones` says whether all weights are 1.
-fn byte_count(network: &Network, ones: bool) -> usize
+fn byte_count(network: &HeldNetwork, ones: bool) -> usize
     requires { ones ≡ all_ones (weights network.now) }
     ensures { result ≡ length (file_of network.now) }
 {
@@ -131,7 +131,7 @@ fn byte_count(network: &Network, ones: bool) -> usize
 }
 
 // Writes the file of a network at the front of bytes that are enough, and gives its byte count.
-fn write_file(network: &Network, ones: bool, out: &mut [u8]) -> usize
+fn write_file(network: &HeldNetwork, ones: bool, out: &mut [u8]) -> usize
     requires { (ones ≡ all_ones (weights network.now)) × (length (file_of network.now) ≤ length out.old) }
     ensures { WrittenAt (file_of network.now) 0 out.old result out.new }
 {

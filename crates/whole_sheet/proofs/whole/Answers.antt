@@ -8,7 +8,7 @@ use Rattle.whole_sheet.proofs.whole.Goals as goal
 pub returns : goal.returns
 returns c =
     let held = c.in_ok-network.ensures in
-    let written = rw held.1 at c.write_sheet-bytes.ensures.written_at in
+    let written = rw held.1 at c.write_network-bytes.ensures.written_at in
     let w =
     sheet_due (network_of c.args.table.now) c.args.out.now
     (on_held held.0 (due_text _ _ (written_front _ _ written) (c.copy_text.ensures.result_value, c.copy_text.ensures.out_after))) in
